@@ -7,7 +7,7 @@ use Rattle.std.specs.Option.{is_some, option_map}
 use Rattle.std.specs.Prelude.{not}
 use Rattle.std.proofs.lemmas.Bool.{true≢false}
 use lib.ListN.{get_or}
-use Rattle.std.proofs.lemmas.List.{append_assoc, map-append}
+use Rattle.std.proofs.lemmas.List.{append_assoc, length-append, map-append}
 use Rattle.base_row_laws.specs.Ranked.{Ranked, ranked}
 use Rattle.base_row_laws.specs.Bags.{SameBag, has, IsIdentity, classes, each_once}
 use Rattle.base_row_laws.specs.Rows.{columns, same_row}
@@ -80,6 +80,23 @@ pub row_more : (f : List Value × Group → Ranked Value) (first old new : List 
 row_more f first old new es i k g one two before more =
     more ∙ ap (λ l. l ++ f (k, g) ∷ []) before ∙ append_assoc first (map f (take i es)) (f (k, g) ∷ [])
     ∙ ap (λ l. first ++ l) (sym (row_suc f es i k g one two) ∙ (let s : suc i ≡ i + 1 = omega arith in ap (λ n. map f (take n es)) s))
+
+-- a page with an entry is among them
+pub some_page : (ps : List Entries) (i n : ℕ) (es : Entries) → i < length ps → es ≡ get_or ps i es → n ≡ length es → 0 < n → 0 < length (entries_of ps)
+some_page [] i n es less is many some = absurd (omega arith)
+some_page (x ∷ ps) zero n es less is many some =
+    let e = ap (λ (l : Entries). length l) is in omega (arith, e, many, some, length-append x (entries_of ps))
+some_page (x ∷ ps) (suc i) n es less is many some =
+    let e = some_page ps i n es (omega arith) is many some in omega (arith, e, length-append x (entries_of ps))
+
+-- what is shown where there is an entry
+some_by : (p : KeptPlan) (by : List ℕ) (es : Entries) → 0 < length es → map (λ (e : List Value × Group). output_row p e.0 e.1) es ≡ output_by p by es
+some_by p by [] some = absurd (omega arith)
+some_by p [] (e ∷ es) some = refl
+some_by p (k ∷ ks) (e ∷ es) some = refl
+
+pub some_shown : (p : KeptPlan) (es : Entries) → 0 < length es → map (λ (e : List Value × Group). output_row p e.0 e.1) es ≡ output_rows p es
+some_shown p es some = some_by p p.by es some
 
 -- what is shown where there is no entry and no one group
 none_by : (p : KeptPlan) (by : List ℕ) (es : Entries) → (by ≡ [] → ⊥) → slice_get es 0 ≡ None → [] ≡ output_by p by es

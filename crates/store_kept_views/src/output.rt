@@ -172,7 +172,8 @@ fn put_pages(
 
 // The first page that has an entry, if there is one.
 fn first_page(pages: &[Page]) -> Option<&Page>
-    ensures { MatchOption result (entries_of pages.now ≡ []) (λ p. 0 < length p.now) }
+    ensures { MatchOption result (entries_of pages.now ≡ [])
+        (λ p. (0 < length p.now) × (0 < length (entries_of pages.now))) }
 {
     for page in pages {
         if page.len() > 0 {
