@@ -1,15 +1,14 @@
 -- What groups show.
-use Rattle.std.proofs.Common.{◌≡◌, ℕ, ◌+◌, ◌<◌, ◌≤◌, List, [], ◌∷◌, ◌++◌, Bool, true, false, cond, refl, sym, ◌∙◌, ap, subst, arith, inl, inr, Some, None, Option, length, zero, suc}
+use Rattle.std.proofs.Common.{◌≡◌, ℕ, ◌+◌, ◌<◌, ◌≤◌, List, [], ◌∷◌, ◌++◌, Bool, true, refl, sym, ◌∙◌, ap, subst, arith, Some, None, length, zero, suc}
 use Rattle.std.specs.Prelude.{map, take}
 use Rattle.std.specs.List.{filter, IsDistinct, slice_get}
-use Rattle.std.specs.Map.{lookup}
 use Rattle.std.specs.Option.{is_some, option_map}
 use Rattle.std.specs.Prelude.{not}
 use Rattle.std.proofs.lemmas.Bool.{true≢false}
 use lib.ListN.{get_or}
 use Rattle.std.proofs.lemmas.List.{append_assoc, length-append, map-append}
 use Rattle.base_row_laws.specs.Ranked.{Ranked, ranked}
-use Rattle.base_row_laws.specs.Bags.{SameBag, has, IsIdentity, classes, each_once}
+use Rattle.base_row_laws.specs.Bags.{SameBag, classes, each_once}
 use Rattle.base_row_laws.specs.Rows.{columns, same_row}
 use Rattle.base_row_laws.specs.Operators.{project, group_by, total, least}
 use Rattle.base_row_laws.specs.Aggregates.{aggregated}
@@ -24,8 +23,8 @@ use Rattle.plan_algebra.specs.declared.kept_plan.KeptPlan.{KeptPlan}
 use Rattle.plan_algebra.specs.declared.kept_plan.KeptAggregate.{KeptAggregate}
 use Rattle.store_groups.specs.Stored.{cell_in}
 use Rattle.plan_algebra.specs.KeptPlans.{kept_groups as groups}
-use Rattle.plan_algebra.specs.KeptPlans.{item_of, selected, key_of, query_rows}
-use Rattle.store_groups.specs.Groups.{Group, Cell, no_rows}
+use Rattle.plan_algebra.specs.KeptPlans.{item_of, selected, query_rows}
+use Rattle.store_groups.specs.Groups.{Group}
 use Rattle.store_kept_views.specs.RowGroups.{group_of, shown, all_shown, row_of}
 use Rattle.store_groups.specs.Entries.{Entries, same_key, group_at}
 use Rattle.store_kept_views.specs.Standing.{rows_at, made_at, StandsFor}
