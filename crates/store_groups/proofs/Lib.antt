@@ -1,2 +1,4 @@
 pub mod EntryLists
 pub mod PageLists
+pub mod BodyLists
+pub mod ShelfLists

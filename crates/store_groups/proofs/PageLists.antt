@@ -1,21 +1,21 @@
 -- Entries on the pages that their keys' hashes lead to.
 use Rattle.std.proofs.Common.{◌≡◌, ℕ, ◌+◌, ◌%◌, ◌<◌, ◌≤◌, List, [], ◌∷◌, ◌++◌, false, cond, refl, sym, ◌∙◌, ap, subst, arith, inl, inr, Some, None, Option, zero, suc, set}
-use Rattle.std.specs.Prelude.{replicate, take, ◌⊎◌}
+use Rattle.std.specs.Prelude.{replicate, take}
 use Rattle.std.specs.List.{fold, IsDistinct, AllByRecursion}
 use lib.ListN.{get_or, length}
 use Rattle.std.proofs.lemmas.Bool.{cases_Bool, cases_eq}
-use Rattle.std.proofs.lemmas.List.{get_or-set_same, get_or-set_other, length-set, set-get_or, length-replicate, append_assoc, append-nil}
+use Rattle.std.proofs.lemmas.List.{get_or-set_same, get_or-set_other, length-set, length-replicate, append_assoc, append-nil}
 use Rattle.std.proofs.lemmas.Map.Keys.{IsDistinct-head, IsDistinct-tail, IsDistinct-cons}
 use Rattle.std.proofs.lemmas.Nat.{mod_below}
 use Rattle.std.specs.Hash.FoldHasher.{initial, write, finish}
 use Rattle.store_groups.specs.Pages.{entries_of}
 use Rattle.base_value.specs.declared.value.Value.{Value}
 use Rattle.store_groups.specs.Groups.{Group}
-use Rattle.store_groups.specs.Entries.{IsHash, Entries, same_key, group_at}
+use Rattle.store_groups.specs.Entries.{IsHash, Entries, same_key, group_at, keys_of}
 use Rattle.store_groups.specs.Entries.{with_group, without_key}
-use Rattle.store_groups.specs.Taken.{IsSet}
+use Rattle.store_groups.specs.Taken.{IsSet, IsSetOn}
 use Rattle.store_groups.specs.Pages.{ArePlaced, IsTable, first_of, page_in}
-use Rattle.store_groups.proofs.EntryLists.{key_identity, keys, at_with_group, distinct_put, distinct_without, distinct_none}
+use Rattle.store_groups.proofs.EntryLists.{key_identity, at_with_group, distinct_put, distinct_without, distinct_none}
 
 first_alone : (o : Option Group) → first_of o None ≡ o
 first_alone None = refl
@@ -35,10 +35,15 @@ popped [] e old new q is = elim (cases_Bool (same_key q e.0)) [
 popped (x ∷ xs) e old new q is = elim (cases_Bool (same_key q x.0)) [ inl t ↦ rw t | inr f ↦ rw f (popped xs e old new q is) ]
 
 -- no key of two lists is x
-far_both : (x : List Value) (es rest : Entries) → AllByRecursion (λ y. same_key x y ≡ false) (keys es) → AllByRecursion (λ y. same_key x y ≡ false) (keys rest)
-    → AllByRecursion (λ y. same_key x y ≡ false) (keys (es ++ rest))
+far_both : (x : List Value) (es rest : Entries) → AllByRecursion (λ y. same_key x y ≡ false) (keys_of es) → AllByRecursion (λ y. same_key x y ≡ false) (keys_of rest)
+    → AllByRecursion (λ y. same_key x y ≡ false) (keys_of (es ++ rest))
 far_both x [] rest one two = two
 far_both x (e ∷ es) rest one two = (one.0, far_both x es rest one.1 two)
+
+-- the group of a key set
+set_of : (k : List Value) (o : Option Group) (old new : Entries) → IsSetOn k o old new → IsSet k o old new
+set_of k o old new (inl made) q = ap (λ (es : Entries). group_at es q) made ∙ at_with_group k o old q
+set_of k o old new (inr made) q = made.1 q
 
 module _ (page : List Value → ℕ) where
   abbrev AllOn : ℕ → Entries → Type 0
@@ -84,19 +89,19 @@ module _ (page : List Value → ℕ) where
   all_of_page i zero (es ∷ ps) placed less = let e : i ≡ i + 0 = omega arith in subst (λ n. AllOn n es) e placed.0
   all_of_page i (suc j) (es ∷ ps) placed less = let e : suc i + j ≡ i + suc j = omega arith in subst (λ n. AllOn n (get_or ps j [])) e (all_of_page (suc i) j ps placed.2 (omega arith))
 
-  distinct_page : (i j : ℕ) (ps : List Entries) → ArePlaced page i ps → j < length ps → IsDistinct same_key (keys (get_or ps j []))
+  distinct_page : (i j : ℕ) (ps : List Entries) → ArePlaced page i ps → j < length ps → IsDistinct same_key (keys_of (get_or ps j []))
   distinct_page i j [] placed less = absurd (omega arith)
   distinct_page i zero (es ∷ ps) placed less = placed.1
   distinct_page i (suc j) (es ∷ ps) placed less = distinct_page (suc i) j ps placed.2 (omega arith)
 
-  placed_set : (i j : ℕ) (ps : List Entries) (new : Entries) → ArePlaced page i ps → j < length ps → AllOn (i + j) new → IsDistinct same_key (keys new) → ArePlaced page i (set ps j new)
+  placed_set : (i j : ℕ) (ps : List Entries) (new : Entries) → ArePlaced page i ps → j < length ps → AllOn (i + j) new → IsDistinct same_key (keys_of new) → ArePlaced page i (set ps j new)
   placed_set i j [] new placed less all distinct = placed
   placed_set i zero (es ∷ ps) new placed less all distinct = let e : i + 0 ≡ i = omega arith in (subst (λ n. AllOn n new) e all, distinct, placed.2)
   placed_set i (suc j) (es ∷ ps) new placed less all distinct = let e : i + suc j ≡ suc i + j = omega arith in
       (placed.0, placed.1, placed_set (suc i) j ps new placed.2 (omega arith) (subst (λ n. AllOn n new) e all) distinct)
 
   -- keys of other pages are other keys
-  far_page : (i j : ℕ) (x : List Value) (es : Entries) → page x ≡ i → AllOn j es → (i ≡ j → ⊥) → AllByRecursion (λ y. same_key x y ≡ false) (keys es)
+  far_page : (i j : ℕ) (x : List Value) (es : Entries) → page x ≡ i → AllOn j es → (i ≡ j → ⊥) → AllByRecursion (λ y. same_key x y ≡ false) (keys_of es)
   far_page i j x [] on all other = tt
   far_page i j x (e ∷ es) on all other = (elsewhere_key x e.0 (λ is. other (sym on ∙ is ∙ all.0)), far_page i j x es on all.1 other)
     where
@@ -106,20 +111,20 @@ module _ (page : List Value → ℕ) where
         | inl t ↦ absurd (other (ap page (key_identity.tells x y t)))
       ]
 
-  far_pages : (i j : ℕ) (x : List Value) (ps : List Entries) → page x ≡ i → i < j → ArePlaced page j ps → AllByRecursion (λ y. same_key x y ≡ false) (keys (entries_of ps))
+  far_pages : (i j : ℕ) (x : List Value) (ps : List Entries) → page x ≡ i → i < j → ArePlaced page j ps → AllByRecursion (λ y. same_key x y ≡ false) (keys_of (entries_of ps))
   far_pages i j x [] on less placed = tt
   far_pages i j x (es ∷ ps) on less placed =
       far_both x es (entries_of ps) (far_page i j x es on placed.0 (λ is. omega arith)) (far_pages i (suc j) x ps on (omega arith) placed.2)
 
-  distinct_both : (i : ℕ) (es rest : Entries) → AllOn i es → IsDistinct same_key (keys es) → IsDistinct same_key (keys rest)
-      → ((x : List Value) → page x ≡ i → AllByRecursion (λ y. same_key x y ≡ false) (keys rest)) → IsDistinct same_key (keys (es ++ rest))
+  distinct_both : (i : ℕ) (es rest : Entries) → AllOn i es → IsDistinct same_key (keys_of es) → IsDistinct same_key (keys_of rest)
+      → ((x : List Value) → page x ≡ i → AllByRecursion (λ y. same_key x y ≡ false) (keys_of rest)) → IsDistinct same_key (keys_of (es ++ rest))
   distinct_both i [] rest all one two far = two
   distinct_both i (e ∷ es) rest all one two far =
-      IsDistinct-cons same_key e.0 (keys (es ++ rest))
-      (far_both e.0 es rest (IsDistinct-head same_key e.0 (keys es) one) (far e.0 all.0))
-      (distinct_both i es rest all.1 (IsDistinct-tail same_key e.0 (keys es) one) two far)
+      IsDistinct-cons same_key e.0 (keys_of (es ++ rest))
+      (far_both e.0 es rest (IsDistinct-head same_key e.0 (keys_of es) one) (far e.0 all.0))
+      (distinct_both i es rest all.1 (IsDistinct-tail same_key e.0 (keys_of es) one) two far)
 
-  pub distinct_all : (i : ℕ) (ps : List Entries) → ArePlaced page i ps → IsDistinct same_key (keys (entries_of ps))
+  pub distinct_all : (i : ℕ) (ps : List Entries) → ArePlaced page i ps → IsDistinct same_key (keys_of (entries_of ps))
   distinct_all i [] placed = distinct_none [] refl
   distinct_all i (es ∷ ps) placed =
       distinct_both i es (entries_of ps) placed.0 placed.1 (distinct_all (suc i) ps placed.2)
@@ -163,17 +168,36 @@ module _ (page : List Value → ℕ) where
   placed_with ps j k None placed is less = placed_removed ps j k placed less
   placed_with ps j k (Some g) placed is less = placed_put ps j (k, g) placed is less
 
-  pub set_at : (ps : List Entries) (j : ℕ) (k : List Value) (o : Option Group) → ArePlaced page 0 ps → ((x : List Value) → page x < length ps) → j ≡ page k
-      → IsSet k o (entries_of ps) (entries_of (set ps j (with_group k o (get_or ps j []))))
-  set_at ps j k o placed within is q =
+  keys_on : (i : ℕ) (es : Entries) → AllOn i es → AllByRecursion (λ x. page x ≡ i) (keys_of es)
+  keys_on i [] all = tt
+  keys_on i (e ∷ es) all = (all.0, keys_on i es all.1)
+
+  on_keys : (i : ℕ) (es : Entries) → AllByRecursion (λ x. page x ≡ i) (keys_of es) → AllOn i es
+  on_keys i [] all = tt
+  on_keys i (e ∷ es) all = (all.0, on_keys i es all.1)
+
+  -- a page of the same keys
+  pub placed_like : (ps : List Entries) (j : ℕ) (new : Entries) → ArePlaced page 0 ps → j < length ps → keys_of new ≡ keys_of (get_or ps j []) → ArePlaced page 0 (set ps j new)
+  placed_like ps j new placed less same =
+      placed_set 0 j ps new placed less
+      (on_keys (0 + j) new (subst (λ ks. AllByRecursion (λ x. page x ≡ 0 + j) ks) (sym same) (keys_on (0 + j) (get_or ps j []) (all_of_page 0 j ps placed less))))
+      (subst (λ ks. IsDistinct same_key ks) (sym same) (distinct_page 0 j ps placed less))
+
+  pub placed_on : (ps : List Entries) (j : ℕ) (k : List Value) (o : Option Group) (new : Entries) → ArePlaced page 0 ps → j ≡ page k → j < length ps
+      → IsSetOn k o (get_or ps j []) new → ArePlaced page 0 (set ps j new)
+  placed_on ps j k o new placed is less (inl made) = subst (λ es. ArePlaced page 0 (set ps j es)) (sym made) (placed_with ps j k o placed is less)
+  placed_on ps j k o new placed is less (inr made) = placed_like ps j new placed less made.0
+
+  pub set_at : (ps : List Entries) (j : ℕ) (k : List Value) (o : Option Group) (new : Entries) → ArePlaced page 0 ps → ((x : List Value) → page x < length ps) → j ≡ page k
+      → IsSetOn k o (get_or ps j []) new → IsSet k o (entries_of ps) (entries_of (set ps j new))
+  set_at ps j k o new placed within is made q =
       let less : j < length ps = subst (λ n. n < length ps) (sym is) (within k) in
-      let new : Entries = with_group k o (get_or ps j []) in
-      found (set ps j new) q (placed_with ps j k o placed is less) (subst (λ n. page q < n) (sym (length-set ps j new)) (within q))
+      found (set ps j new) q (placed_on ps j k o new placed is less made) (subst (λ n. page q < n) (sym (length-set ps j new)) (within q))
       ∙ elim (cases_eq (page q) j) [
         | inl t ↦
             ap (λ n. group_at (get_or (set ps j new) n []) q) t
             ∙ ap (λ (es : Entries). group_at es q) (get_or-set_same ps j new [] less)
-            ∙ at_with_group k o (get_or ps j []) q
+            ∙ set_of k o (get_or ps j []) new made q
             ∙ ap (λ x. cond (same_key q k) o x) (ap (λ n. group_at (get_or ps n []) q) (sym t) ∙ sym (found ps q placed (within q)))
         | inr f ↦
             ap (λ (es : Entries). group_at es q) (get_or-set_other ps j (page q) new [] f)
@@ -224,30 +248,30 @@ module _ {fed : List Value → List (List ℕ)} {ps : List Entries} (table : IsT
       ∙ sym (found page ps k table.placed (within fed (length ps) table.some k))
 
   -- the keys of a page differ
-  pub page_distinct : IsDistinct same_key (keys here)
-  page_distinct = subst (λ es. IsDistinct same_key (keys es)) (sym on_page) (distinct_page page 0 at ps table.placed less)
+  pub page_distinct : IsDistinct same_key (keys_of here)
+  page_distinct = subst (λ es. IsDistinct same_key (keys_of es)) (sym on_page) (distinct_page page 0 at ps table.placed less)
+
+  table_of : (new : Entries) → ArePlaced page 0 (set ps at new) → IsTable fed (set ps at new)
+  table_of new placed =
+      let same = sym (length-set ps at new) in
+      record {
+        some = subst (λ m. 0 < m) same table.some;
+        placed = subst (λ m. ArePlaced (page_in fed m) 0 (set ps at new)) same placed;
+      }
 
   -- with the group of a key set
-  module _ (o : Option Group) (new : Entries) (made : new ≡ with_group k o here) where
-    new_is : new ≡ with_group k o (get_or ps at [])
-    new_is = made ∙ ap (λ x. with_group k o x) on_page
+  module _ (o : Option Group) (new : Entries) (made : IsSetOn k o here new) where
+    made_on : IsSetOn k o (get_or ps at []) new
+    made_on = subst (λ es. IsSetOn k o es new) on_page made
 
     pub table_with : IsTable fed (set ps at new)
-    table_with =
-        let same = sym (length-set ps at new) in
-        record {
-          some = subst (λ m. 0 < m) same table.some;
-          placed = subst (λ m. ArePlaced (page_in fed m) 0 (set ps at new)) same
-              (subst (λ x. ArePlaced page 0 (set ps at x)) (sym new_is) (placed_with page ps at k o table.placed is_page less));
-        }
+    table_with = table_of new (placed_on page ps at k o new table.placed is_page less made_on)
 
     pub table_set : IsSet k o (entries_of ps) (entries_of (set ps at new))
-    table_set q =
-        ap (λ x. group_at (entries_of (set ps at x)) q) new_is
-        ∙ set_at page ps at k o table.placed (within fed (length ps) table.some) is_page q
+    table_set = set_at page ps at k o new table.placed (within fed (length ps) table.some) is_page made_on
 
   -- the same of what the table is seen as
-  pub set_there : (old : Entries) → entries_of ps ≡ old → (f : Option Group → Option Group) (new : Entries) → new ≡ with_group k (f (group_at here k)) here
+  pub set_there : (old : Entries) → entries_of ps ≡ old → (f : Option Group → Option Group) (new : Entries) → IsSetOn k (f (group_at here k)) here new
       → IsSet k (f (group_at old k)) old (entries_of (set ps at new))
   set_there old view f new made q =
       table_set (f (group_at here k)) new made q
@@ -258,13 +282,11 @@ module _ {fed : List Value → List (List ℕ)} {ps : List Entries} (table : IsT
   get_there old view = table_get ∙ ap (λ (es : Entries). group_at es k) view
 
   -- after want of memory
-  pub table_after : (new : Entries) → (new ≡ here) ⊎ (new ≡ without_key k here) → IsTable fed (set ps at new)
-  table_after new (inl same) =
-      subst (λ qs. IsTable fed qs) (sym (ap (λ x. set ps at x) (same ∙ on) ∙ set-get_or ps at here)) table
-  table_after new (inr without) = table_with None new without
+  pub table_after : (new : Entries) → keys_of new ≡ keys_of here → IsTable fed (set ps at new)
+  table_after new same = table_of new (placed_like page ps at new table.placed less (same ∙ ap keys_of on_page))
 
 -- the keys of all pages differ
-pub table_distinct : {fed : List Value → List (List ℕ)} {ps : List Entries} → IsTable fed ps → IsDistinct same_key (keys (entries_of ps))
+pub table_distinct : {fed : List Value → List (List ℕ)} {ps : List Entries} → IsTable fed ps → IsDistinct same_key (keys_of (entries_of ps))
 table_distinct {fed} {ps} table = distinct_all (page_in fed (length ps)) 0 ps table.placed
 
 -- no entries on so many pages

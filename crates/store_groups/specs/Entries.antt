@@ -1,5 +1,5 @@
 -- Keys with their groups, and how one key's group changes.
-use Rattle.std.specs.Prelude.{◌≡◌, ℕ, ◌<◌, List, [], ◌∷◌, ◌++◌, Bool, not, true, length, get_or}
+use Rattle.std.specs.Prelude.{◌≡◌, ℕ, List, [], ◌∷◌, ◌++◌, Bool, not, true, length, map}
 use Rattle.std.specs.Prelude.{Option, Some, None}
 use Rattle.std.specs.List.{filter, fold}
 use Rattle.std.specs.Hash.FoldHasher.{initial, write, finish}
@@ -25,6 +25,10 @@ pub record IsHash (fed : List Value → List (List ℕ)) (hash : ℕ) (key : Lis
 abbrev pub Entries : Type 0
 Entries = List (List Value × Group)
 
+-- their keys
+abbrev pub keys_of : Entries → List (List Value)
+keys_of es = map (λ e. e.0) es
+
 -- the group of a key, if it has one
 abbrev pub group_at : Entries → List Value → Option Group
 group_at es q = lookup (same_key q) es
@@ -37,11 +41,6 @@ without_key k es = filter (λ e. not (same_key k e.0)) es
 abbrev pub with_group : List Value → Option Group → Entries → Entries
 with_group k None es = without_key k es
 with_group k (Some g) es = without_key k es ++ (k, g) ∷ []
-
--- the entry at a place is the key's
-abbrev pub IsPlace : Entries → List Value → ℕ → Type 0
-IsPlace es k i = (i < length es) × ((d : List Value × Group)
-    → ((get_or es i d).0 ≡ k) × (group_at es k ≡ Some (get_or es i d).1))
 
 -- the group, or that of no rows, with so many cells
 abbrev pub or_empty : ℕ → Option Group → Group

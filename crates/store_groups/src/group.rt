@@ -1,12 +1,12 @@
 //! What is kept of a group of rows.
 ghost use Rattle.std.specs.Prelude.{◌≡◌, IfOk, OnOk, length, map};
 ghost use Rattle.base_value.specs.Truth.{standing_rank};
-ghost use Rattle.store_groups.specs.Groups.{HasRow, is_faultless, no_rows, with_row};
-ghost use Rattle.store_groups.specs.Groups.{without_row};
+ghost use Rattle.store_groups.specs.Groups.{group, is_faultless, no_rows, with_row};
 ghost use Rattle.store_groups.specs.Stored.{cell_in};
 
 use crate::cell::Cell;
-use crate::cells::{are_plain, no_cells, put_values, remove_values};
+use crate::cells::{are_plain, no_cells, put_values};
+use crate::head::Head;
 use base_value::{Standing, Value};
 use std::alloc::{AllocError, Global};
 use std::marker::Model;
@@ -30,6 +30,25 @@ impl Model for Group {
     ghost view = { λ g. group g.rows (standing_rank g.least) (map cell_in g.cells.items) };
 }
 
+/// A group where it lies.
+#[derive(Drop)]
+pub struct GroupRef<'a> {
+    rows: u64,
+    least: Standing,
+    cells: &'a [Cell],
+}
+
+impl<'a> Model for GroupRef<'a> {
+    ghost use Rattle.std.specs.Prelude.{map};
+    ghost use Rattle.base_value.specs.Truth.{standing_rank};
+    ghost use Rattle.store_groups.specs.Groups.{Group as Kept, group};
+    ghost use Rattle.store_groups.specs.Stored.{cell_in};
+
+    ghost Value = { Kept };
+
+    ghost view = { λ g. group g.rows (standing_rank g.least) (map cell_in g.cells.now) };
+}
+
 impl Group {
     /// Of no rows, with so many cells.
     pub fn none(alloc: Global, count: usize) -> Result<Group, AllocError>
@@ -43,11 +62,44 @@ impl Group {
         })
     }
 
+    /// The group where it lies.
+    pub fn seen(&self) -> GroupRef<'_>
+        ensures { result ≡ self.now }
+    {
+        GroupRef {
+            rows: self.rows,
+            least: self.least,
+            cells: self.cells.as_slice(),
+        }
+    }
+
+    /// Puts a row in, of these arguments. More rows than are counted are an error, as memory that
+    /// isn't there.
+    pub(crate) fn put(&mut self, arguments: &[Value], standing: Standing) -> Result<(), AllocError>
+        requires { length arguments.now ≡ length self.old.cells }
+        ensures { OnOk result
+            (self.new ≡ with_row self.old arguments.now (standing_rank standing)) }
+    {
+        self.rows = self.rows.checked_add(1).ok_or(AllocError)?;
+        self.least = self.least.lesser(standing);
+        put_values(self.cells.as_mut_slice(), arguments)?;
+        Ok(())
+    }
+}
+
+impl<'a> GroupRef<'a> {
+    /// The group of so many rows, of this least standing and these cells.
+    pub(crate) fn new(rows: u64, least: Standing, cells: &'a [Cell]) -> GroupRef<'a>
+        ensures { result ≡ group rows (standing_rank least) (map cell_in cells.now) }
+    {
+        GroupRef { rows, least, cells }
+    }
+
     /// A copy of it.
     pub(crate) fn copy(&self, alloc: Global) -> Result<Group, AllocError>
         ensures { IfOk result (λ g. g ≡ self.now) }
     {
-        let cells = Vec::from_slice(alloc, self.cells.as_slice())?;
+        let cells = Vec::from_slice(alloc, self.cells)?;
         Ok(Group {
             rows: self.rows,
             least: self.least,
@@ -73,36 +125,26 @@ impl Group {
     pub fn cells(&self) -> &[Cell]
         ensures { map cell_in result.now ≡ self.now.cells }
     {
-        self.cells.as_slice()
+        self.cells
     }
 
-    /// Puts a row in, of these arguments. More rows than are counted are an error, as memory that
-    /// isn't there.
-    pub(crate) fn put(&mut self, arguments: &[Value], standing: Standing) -> Result<(), AllocError>
-        requires { length arguments.now ≡ length self.old.cells }
-        ensures { OnOk result
-            (self.new ≡ with_row self.old arguments.now (standing_rank standing)) }
+    /// What it has apart from the cells.
+    pub(crate) fn head(&self) -> Head
+        ensures rows { result.rows ≡ self.now.rows }
+        ensures least { standing_rank result.least ≡ self.now.least }
+        ensures count { result.count ≡ length self.now.cells }
     {
-        self.rows = self.rows.checked_add(1).ok_or(AllocError)?;
-        self.least = self.least.lesser(standing);
-        put_values(self.cells.as_mut_slice(), arguments)?;
-        Ok(())
-    }
-
-    /// Takes one of its rows out, of these arguments.
-    pub(crate) fn remove(&mut self, arguments: &[Value])
-        requires long { length arguments.now ≡ length self.old.cells }
-        requires has { HasRow self.old arguments.now }
-        ensures { self.new ≡ without_row self.old arguments.now }
-    {
-        remove_values(self.cells.as_mut_slice(), arguments);
-        self.rows -= 1;
+        Head {
+            rows: self.rows,
+            least: self.least,
+            count: self.cells.len(),
+        }
     }
 
     /// Whether no fault is in a standing, a value or a sum.
     pub(crate) fn is_faultless(&self) -> bool
         ensures { result ≡ is_faultless self.now }
     {
-        matches!(self.least, Standing::AtTrue) && are_plain(self.cells.as_slice())
+        matches!(self.least, Standing::AtTrue) && are_plain(self.cells)
     }
 }

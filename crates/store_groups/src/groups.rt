@@ -1,5 +1,5 @@
 //! A table of groups by the hashes of their keys.
-ghost use Rattle.std.specs.Prelude.{◌≡◌, ◌<◌, ◌%◌, [], Some, List, IfOk, OnOk, is_some, map, length};
+ghost use Rattle.std.specs.Prelude.{◌≡◌, ◌++◌, ◌<◌, ◌%◌, [], Some, List, IfOk, OnOk, is_some, map, length};
 ghost use Rattle.std.specs.Prelude.{replicate, IsTrue};
 ghost use Rattle.std.specs.List.{IsDistinct};
 ghost use Rattle.store_groups.specs.Pages.{entries_of};
@@ -11,9 +11,10 @@ ghost use Rattle.store_groups.specs.Pages.{first_of};
 ghost use Rattle.store_groups.specs.Entries.{group_at, same_key};
 ghost use Rattle.store_groups.specs.Taken.{IsSet, IsTaken, left_of};
 
-use crate::entry::{Entry, Taken, shares};
+use crate::entry::{Entry, Taken};
+use crate::group::Group;
+use crate::key::{Key, hash_of};
 use crate::page::Page;
-use crate::pair::hash_of;
 use base_value::{Row, Standing, Value};
 use std::alloc::{AllocError, Global};
 use std::hash::Hash;
@@ -75,14 +76,23 @@ fn page_shares(alloc: Global, pages: &[Page]) -> Result<Vec<Page>, AllocError>
     Ok(all)
 }
 
-/// Further shares of the entries of pages.
+/// Puts the entries of a page after others.
+fn put_entries_of(alloc: Global, page: &Page, all: &mut Vec<Entry>) -> Result<(), AllocError>
+    ensures { OnOk result (all.new.items ≡ all.old.items ++ page.now) }
+{
+    for i in 0..page.len() {
+        all.push(page.entry(alloc, i)?)?;
+    }
+    Ok(())
+}
+
+/// The entries of pages.
 fn page_entries(alloc: Global, pages: &[Page]) -> Result<Vec<Entry>, AllocError>
     ensures { IfOk result (λ all. all.items ≡ entries_of pages.now) }
 {
     let mut all = Vec::new(alloc);
     for page in pages {
-        let mut entries = shares(alloc, page.entries())?;
-        all.append(&mut entries)?;
+        put_entries_of(alloc, page, &mut all)?;
     }
     Ok(all)
 }
@@ -210,9 +220,10 @@ impl Groups {
     pub fn put_key(&mut self, key: &[Value]) -> Result<(), AllocError>
         ensures { OnOk result (IsSet key.now (Some (no_rows 0)) self.old self.new) }
     {
-        let entry = Entry::none(self.alloc, hash_of(key), key, 0)?;
+        let group = Group::none(self.alloc, 0)?;
+        let key = Key::new(self.alloc, hash_of(key), key)?;
         self.make_room()?;
-        self.put_entry(entry)?;
+        self.put_entry(Entry::new(key, group))?;
         Ok(())
     }
 

@@ -2,17 +2,20 @@
 //! aggregate's argument their sums and their least fault. Rows are put in and taken out.
 #![tactic(auto)]
 
+mod body;
 mod cell;
 mod cells;
 mod entry;
 mod group;
 mod groups;
+mod head;
+mod key;
 pub mod laws;
 mod page;
-mod pair;
+mod shelf;
 
 pub use cell::Cell;
-pub use entry::{Entry, Taken};
-pub use group::Group;
+pub use entry::Taken;
+pub use group::{Group, GroupRef};
 pub use groups::Groups;
 pub use page::Page;

@@ -1,6 +1,6 @@
 -- Cells and groups of lists, one value or row more or less.
-use Rattle.std.proofs.Common.{◌≡◌, ℕ, ◌+◌, ◌-◌, ◌*◌, ◌≤◌, ◌<◌, ◌^◌, ◌==◌, List, [], ◌∷◌, ◌++◌, Bool, true, false, cond, refl, sym, ◌∙◌, ap, subst, arith, inl, inr, length, ℤ, pos, negsuc, ◌-ℤ◌, zero, suc}
-use Rattle.std.specs.Prelude.{not, map, min, max, replicate, slice_index_or, ◌&&◌, nat_lt, Ok, Err}
+use Rattle.std.proofs.Common.{◌≡◌, ℕ, ◌+◌, ◌-◌, ◌≤◌, ◌<◌, ◌^◌, ◌==◌, List, [], ◌∷◌, ◌++◌, Bool, true, false, cond, refl, sym, ◌∙◌, ap, subst, arith, inl, inr, length, ℤ, pos, negsuc, ◌-ℤ◌, suc}
+use Rattle.std.specs.Prelude.{not, map, min, max, replicate, ◌&&◌, nat_lt, Ok, Err}
 use Rattle.std.proofs.lemmas.Int.{ints}
 use Rattle.std.proofs.lemmas.Bool.{eqb-true, ltb-true, ltb-false, lt-ltb, le-ltb, cases_Bool, true≢false}
 use Rattle.std.proofs.lemmas.List.{length-map}
@@ -8,18 +8,18 @@ use Rattle.base_decimal.specs.declared.arithmetic.NumberFault.TheVariants as dec
 use Rattle.base_decimal.specs.Tally.{Sums, sums, no_terms, with_term, is_small, total_of}
 use Rattle.base_decimal.specs.Tally.{without_term, HasTerm, IsInRange}
 use Rattle.base_row_laws.specs.Ranked.{Ranked, ranked, true_rank}
-use Rattle.base_row_laws.specs.Bags.{weigh, bottom, SameBag, OfBag}
+use Rattle.base_row_laws.specs.Bags.{weigh, SameBag}
 use Rattle.base_row_laws.specs.Operators.{least}
-use Rattle.base_row_laws.specs.Aggregates.{not_null, least_fault, aggregated, sum_of, count_of}
+use Rattle.base_row_laws.specs.Aggregates.{not_null, least_fault, aggregated}
 use Rattle.base_row_laws.proofs.Bags.{SameBag-map, SameBag-filter}
-use Rattle.base_row_laws.proofs.OfBags.{bottom_most, OfBag-bottom, OfBag-weigh, OfBag-length}
+use Rattle.base_row_laws.proofs.OfBags.{bottom_most, OfBag-bottom, OfBag-length}
 use Rattle.base_value.specs.declared.value.Value.{Value}
 use Rattle.base_value.specs.declared.value.Value.TheVariants.{Null, Fault, Number, Text, Date}
 use Rattle.expr_aggregates.specs.Values.{written, value_rank, is_null, above, below, reading, number_or_fault}
 use Rattle.plan_algebra.specs.declared.kept_plan.KeptAggregate.{KeptAggregate}
 use Rattle.plan_algebra.specs.declared.kept_plan.KeptAggregate.TheVariants as kept
 use Rattle.plan_algebra.specs.KeptPlans.{item_of}
-use Rattle.store_groups.specs.Groups.{Cell, cell, Group, group, no_rows, cell_of, term_of, with_value, without_value, with_values, without_values, with_row, without_row}
+use Rattle.store_groups.specs.Groups.{Cell, cell, group, no_rows, cell_of, term_of, with_value, without_value, with_values, without_values, with_row, without_row}
 use Rattle.store_kept_views.specs.RowGroups.{arguments, cells_of, group_of}
 use Rattle.store_groups.specs.Groups.{is_plain, are_plain, is_faultless, HasValue, HaveValues, HasRow}
 use Rattle.store_kept_views.specs.RowGroups.{unless_rank, shown, all_shown, row_of}

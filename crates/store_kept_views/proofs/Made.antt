@@ -1,24 +1,21 @@
 -- The group that a key's rows make.
-use Rattle.std.proofs.Common.{◌≡◌, ℕ, ◌+◌, ◌<◌, ◌≤◌, ◌==◌, List, [], ◌∷◌, ◌++◌, Bool, true, false, cond, refl, sym, ◌∙◌, ap, subst, arith, inl, inr, Some, None, Option, length, zero, suc}
-use Rattle.std.specs.Prelude.{map, not, ◌||◌, min}
-use Rattle.std.specs.List.{filter, flat_map}
-use Rattle.std.specs.Option.{is_some}
-use Rattle.std.proofs.lemmas.Bool.{cases_Bool, true≢false}
-use Rattle.std.proofs.lemmas.List.{length-map, append_assoc, map-append, append-nil}
+use Rattle.std.proofs.Common.{◌≡◌, ◌<◌, List, [], ◌∷◌, ◌++◌, Bool, true, false, cond, refl, sym, ◌∙◌, ap, subst, arith, inl, inr, Some, None, length}
+use Rattle.std.specs.Prelude.{map, min}
+use Rattle.std.proofs.lemmas.Bool.{cases_Bool}
+use Rattle.std.proofs.lemmas.List.{append_assoc, append-nil}
 use Rattle.base_row_laws.specs.Ranked.{Ranked, ranked}
-use Rattle.base_row_laws.specs.Bags.{SameBag, has, IsIdentity}
+use Rattle.base_row_laws.specs.Bags.{SameBag, has}
 use Rattle.base_row_laws.specs.Rows.{scanned, keep}
 use Rattle.base_row_laws.specs.Operators.{select}
-use Rattle.base_row_laws.proofs.Bags.{SameBag-map, SameBag-filter, SameBag-flat_map, SameBag-append_comm, SameBag-trans, SameBag-append, SameBag-refl}
+use Rattle.base_row_laws.proofs.Bags.{SameBag-map, SameBag-filter, SameBag-flat_map}
 use Rattle.base_row_laws.proofs.Classes.{apart, same-sym, has-SameBag}
 use Rattle.base_value.specs.declared.value.Value.{Value}
 use Rattle.plan_algebra.specs.declared.kept_plan.KeptPlan.{KeptPlan}
 use Rattle.plan_algebra.specs.KeptPlans.{holds_for, selected, key_of}
-use Rattle.store_groups.specs.Groups.{Group, with_row, without_row, is_faultless, HasRow, no_rows}
 use Rattle.store_kept_views.specs.RowGroups.{group_of}
-use Rattle.store_groups.specs.Entries.{Entries, same_key, group_at}
-use Rattle.store_kept_views.specs.Standing.{rows_at, made_at, StandsFor, StandsBy, is_stale, arguments_in}
-use Rattle.store_kept_views.proofs.GroupLists.{group_more, group_less, group_none, group_alike, has_row}
+use Rattle.store_groups.specs.Entries.{same_key}
+use Rattle.store_kept_views.specs.Standing.{rows_at, made_at}
+use Rattle.store_kept_views.proofs.GroupLists.{group_alike}
 use Rattle.store_groups.proofs.EntryLists.{key_identity}
 
 abbrev pub key : KeptPlan → Ranked Value → List Value

@@ -1,28 +1,25 @@
 -- Rows one by one: what the steps of the code leave.
 use Rattle.std.proofs.Common.{◌≡◌, ℕ, ◌+◌, ◌<◌, ◌≤◌, List, [], ◌∷◌, ◌++◌, Bool, true, false, cond, refl, sym, ◌∙◌, ap, subst, arith, inl, inr, Some, None, Option, length, zero, suc}
-use Rattle.std.specs.Prelude.{not, take, map, ◌⊎◌}
-use Rattle.std.specs.Option.{is_some}
+use Rattle.std.specs.Prelude.{not, take, map}
 use lib.ListN.{drop}
 use Rattle.std.proofs.lemmas.Bool.{cases_Bool}
 use Rattle.std.proofs.lemmas.List.{append_assoc, append-nil, length-map}
 use Rattle.base_columns.specs.Batches.{row_at}
-use Rattle.base_columns.specs.Lists.{one_list}
 use Rattle.base_row_laws.specs.Ranked.{Ranked}
 use Rattle.base_row_laws.specs.Bags.{has}
 use Rattle.base_value.specs.declared.value.Value.{Value}
 use Rattle.plan_algebra.specs.declared.kept_plan.KeptPlan.{KeptPlan}
 use Rattle.plan_algebra.specs.declared.kept_plan.KeptAggregate.{KeptAggregate}
 use Rattle.plan_algebra.specs.KeptPlans.{key_of, selected}
-use Rattle.store_groups.specs.Groups.{Group, with_row, without_row, is_faultless, HasRow, no_rows}
+use Rattle.store_groups.specs.Groups.{Group, with_row, without_row, no_rows}
 use Rattle.store_kept_views.specs.RowGroups.{group_of, cells_of}
 use Rattle.store_groups.specs.Entries.{Entries, same_key, group_at}
 use Rattle.store_kept_views.specs.Standing.{rows_at, made_at, StandsBy, is_stale, arguments_in}
 use Rattle.store_groups.specs.Entries.{CanTake, HasLong, or_empty}
 use Rattle.store_groups.specs.Taken.{IsSet}
-use Rattle.store_kept_views.specs.Moving.{IsDropped, IsGone, IsLeft, IsPut, IsTakenOut}
+use Rattle.store_kept_views.specs.Moving.{IsPut, IsTakenOut}
 use Rattle.store_groups.proofs.EntryLists.{key_identity}
-use Rattle.store_kept_views.proofs.Made.{key, selected_append}
-use Rattle.store_kept_views.proofs.PartLists.{list_more}
+use Rattle.store_kept_views.proofs.Made.{key}
 use Rattle.store_kept_views.proofs.Stages.{args_of, its_group, can_be_taken, left_stands, gone_stands, faulty_stands, absent_stands, put_stands, passed_stands, some_is, none_some}
 
 cells_in : (ags : List KeptAggregate) (ys : List (Ranked Value)) → length (group_of ags ys).cells ≡ length ags

@@ -1,15 +1,14 @@
 -- What groups show.
-use Rattle.std.proofs.Common.{◌≡◌, ℕ, ◌+◌, ◌<◌, ◌≤◌, List, [], ◌∷◌, ◌++◌, Bool, true, false, cond, refl, sym, ◌∙◌, ap, subst, arith, inl, inr, Some, None, Option, length, zero, suc}
+use Rattle.std.proofs.Common.{◌≡◌, ℕ, ◌+◌, ◌<◌, ◌≤◌, List, [], ◌∷◌, ◌++◌, Bool, true, refl, sym, ◌∙◌, ap, subst, arith, Some, None, length, zero, suc}
 use Rattle.std.specs.Prelude.{map, take}
 use Rattle.std.specs.List.{filter, IsDistinct, slice_get}
-use Rattle.std.specs.Map.{lookup}
 use Rattle.std.specs.Option.{is_some, option_map}
 use Rattle.std.specs.Prelude.{not}
 use Rattle.std.proofs.lemmas.Bool.{true≢false}
 use lib.ListN.{get_or}
-use Rattle.std.proofs.lemmas.List.{append_assoc, map-append}
+use Rattle.std.proofs.lemmas.List.{append_assoc, length-append, map-append}
 use Rattle.base_row_laws.specs.Ranked.{Ranked, ranked}
-use Rattle.base_row_laws.specs.Bags.{SameBag, has, IsIdentity, classes, each_once}
+use Rattle.base_row_laws.specs.Bags.{SameBag, classes, each_once}
 use Rattle.base_row_laws.specs.Rows.{columns, same_row}
 use Rattle.base_row_laws.specs.Operators.{project, group_by, total, least}
 use Rattle.base_row_laws.specs.Aggregates.{aggregated}
@@ -24,8 +23,8 @@ use Rattle.plan_algebra.specs.declared.kept_plan.KeptPlan.{KeptPlan}
 use Rattle.plan_algebra.specs.declared.kept_plan.KeptAggregate.{KeptAggregate}
 use Rattle.store_groups.specs.Stored.{cell_in}
 use Rattle.plan_algebra.specs.KeptPlans.{kept_groups as groups}
-use Rattle.plan_algebra.specs.KeptPlans.{item_of, selected, key_of, query_rows}
-use Rattle.store_groups.specs.Groups.{Group, Cell, no_rows}
+use Rattle.plan_algebra.specs.KeptPlans.{item_of, selected, query_rows}
+use Rattle.store_groups.specs.Groups.{Group}
 use Rattle.store_kept_views.specs.RowGroups.{group_of, shown, all_shown, row_of}
 use Rattle.store_groups.specs.Entries.{Entries, same_key, group_at}
 use Rattle.store_kept_views.specs.Standing.{rows_at, made_at, StandsFor}
@@ -57,39 +56,46 @@ cells_past (x ∷ ags) n [] i le = refl
 cells_past (x ∷ ags) n (y ∷ cs) zero le = absurd (omega arith)
 cells_past (x ∷ ags) n (y ∷ cs) (suc i) le = cells_past ags n cs i (omega arith)
 
--- the first entry of pages
-none_here : (es : Entries) → slice_get es 0 ≡ None → es ≡ []
-none_here [] is = refl
-none_here (e ∷ es) is = absurd (true≢false (ap (λ o. is_some o) is))
-
-some_here : (es more : Entries) (e : List Value × Group) → slice_get es 0 ≡ Some e → slice_get (es ++ more) 0 ≡ Some e
-some_here [] more e is = absurd (true≢false (sym (ap (λ o. is_some o) is)))
-some_here (x ∷ es) more e is = is
-
-pub none_more : (ps : List Entries) (i : ℕ) (es : Entries) → i < length ps → es ≡ get_or ps i es → entries_of (take i ps) ≡ [] → slice_get es 0 ≡ None → entries_of (take (i + 1) ps) ≡ []
-none_more ps i es less is before here = entries_more ps i es less is ∙ ap (λ l. l ++ es) before ∙ none_here es here
-
-pub some_more : (ps : List Entries) (i : ℕ) (es : Entries) (e : List Value × Group) → i < length ps → es ≡ get_or ps i es → entries_of (take i ps) ≡ [] → slice_get es 0 ≡ Some e → slice_get (entries_of ps) 0 ≡ Some e
-some_more [] i es e less is before here = absurd (omega arith)
-some_more (p ∷ ps) zero es e less is before here = some_here p (entries_of ps) e (ap (λ l. slice_get l 0) (sym is) ∙ here)
-some_more ([] ∷ ps) (suc i) es e less is before here = some_more ps i es e (omega arith) is before here
-some_more ((x ∷ p) ∷ ps) (suc i) es e less is before here = absurd (omega (arith, ap length before))
-
-pub some_found : {X : Type 0} (now : X → List Value × Group) (o : Option X) (ps : List Entries) (i : ℕ) (es : Entries) → i < length ps → es ≡ get_or ps i es → entries_of (take i ps) ≡ [] → option_map now o ≡ slice_get es 0 → is_some o ≡ true → option_map now o ≡ slice_get (entries_of ps) 0
-some_found now None ps i es less is before here some = absurd (true≢false (sym some))
-some_found now (Some x) ps i es less is before here some = sym (some_more ps i es (now x) less is before (sym here))
-
-pub none_found : {X : Type 0} (now : X → List Value × Group) (o : Option X) (ps : List Entries) (i : ℕ) (es : Entries) → i < length ps → es ≡ get_or ps i es → entries_of (take i ps) ≡ [] → option_map now o ≡ slice_get es 0 → is_some o ≡ false → entries_of (take (i + 1) ps) ≡ []
-none_found now None ps i es less is before here none = none_more ps i es less is before (sym here)
-none_found now (Some x) ps i es less is before here none = absurd (true≢false none)
-
 -- the rows of one more page
-pub rows_more : (f : List Value × Group → Ranked Value) (first old new : List (Ranked Value)) (ps : List Entries) (i : ℕ) (es here : Entries) → i < length ps → es ≡ get_or ps i es → here ≡ es
-    → old ≡ first ++ map f (entries_of (take i ps)) → new ≡ old ++ map f here → new ≡ first ++ map f (entries_of (take (i + 1) ps))
-rows_more f first old new ps i es here less is same before more =
-    more ∙ ap (λ l. l ++ map f here) before ∙ append_assoc first (map f (entries_of (take i ps))) (map f here)
-    ∙ ap (λ l. first ++ (map f (entries_of (take i ps)) ++ map f l)) same
+pub rows_more : (f : List Value × Group → Ranked Value) (first old new : List (Ranked Value)) (ps : List Entries) (i : ℕ) (es : Entries) → i < length ps → es ≡ get_or ps i es
+    → old ≡ first ++ map f (entries_of (take i ps)) → new ≡ old ++ map f es → new ≡ first ++ map f (entries_of (take (i + 1) ps))
+rows_more f first old new ps i es less is before more =
+    more ∙ ap (λ l. l ++ map f es) before ∙ append_assoc first (map f (entries_of (take i ps))) (map f es)
     ∙ ap (λ l. first ++ l) (sym (map-append f (entries_of (take i ps)) es) ∙ ap (map f) (sym (entries_more ps i es less is)))
+
+-- the row of one more entry
+row_suc : (f : List Value × Group → Ranked Value) (es : Entries) (i : ℕ) (k : List Value) (g : Group) → option_map (λ (e : List Value × Group). e.0) (slice_get es i) ≡ Some k
+    → option_map (λ (e : List Value × Group). e.1) (slice_get es i) ≡ Some g → map f (take (suc i) es) ≡ map f (take i es) ++ f (k, g) ∷ []
+row_suc f [] i k g one two = cc
+row_suc f (e ∷ es) zero k g one two = let a : e.0 ≡ k = cc in let b : e.1 ≡ g = cc in ap (λ (x : List Value × Group). f x ∷ []) (pair_is e k g a b)
+  where
+    pair_is : (e : List Value × Group) (k : List Value) (g : Group) → e.0 ≡ k → e.1 ≡ g → e ≡ (k, g)
+    pair_is e k g a b = ap (λ x. (x, e.1)) a ∙ ap (λ y. (k, y)) b
+row_suc f (e ∷ es) (suc i) k g one two = ap (λ l. f e ∷ l) (row_suc f es i k g one two)
+
+pub row_more : (f : List Value × Group → Ranked Value) (first old new : List (Ranked Value)) (es : Entries) (i : ℕ) (k : List Value) (g : Group)
+    → option_map (λ (e : List Value × Group). e.0) (slice_get es i) ≡ Some k → option_map (λ (e : List Value × Group). e.1) (slice_get es i) ≡ Some g
+    → old ≡ first ++ map f (take i es) → new ≡ old ++ f (k, g) ∷ [] → new ≡ first ++ map f (take (i + 1) es)
+row_more f first old new es i k g one two before more =
+    more ∙ ap (λ l. l ++ f (k, g) ∷ []) before ∙ append_assoc first (map f (take i es)) (f (k, g) ∷ [])
+    ∙ ap (λ l. first ++ l) (sym (row_suc f es i k g one two) ∙ (let s : suc i ≡ i + 1 = omega arith in ap (λ n. map f (take n es)) s))
+
+-- a page with an entry is among them
+pub some_page : (ps : List Entries) (i n : ℕ) (es : Entries) → i < length ps → es ≡ get_or ps i es → n ≡ length es → 0 < n → 0 < length (entries_of ps)
+some_page [] i n es less is many some = absurd (omega arith)
+some_page (x ∷ ps) zero n es less is many some =
+    let e = ap (λ (l : Entries). length l) is in omega (arith, e, many, some, length-append x (entries_of ps))
+some_page (x ∷ ps) (suc i) n es less is many some =
+    let e = some_page ps i n es (omega arith) is many some in omega (arith, e, length-append x (entries_of ps))
+
+-- what is shown where there is an entry
+some_by : (p : KeptPlan) (by : List ℕ) (es : Entries) → 0 < length es → map (λ (e : List Value × Group). output_row p e.0 e.1) es ≡ output_by p by es
+some_by p by [] some = absurd (omega arith)
+some_by p [] (e ∷ es) some = refl
+some_by p (k ∷ ks) (e ∷ es) some = refl
+
+pub some_shown : (p : KeptPlan) (es : Entries) → 0 < length es → map (λ (e : List Value × Group). output_row p e.0 e.1) es ≡ output_rows p es
+some_shown p es some = some_by p p.by es some
 
 -- what is shown where there is no entry and no one group
 none_by : (p : KeptPlan) (by : List ℕ) (es : Entries) → (by ≡ [] → ⊥) → slice_get es 0 ≡ None → [] ≡ output_by p by es

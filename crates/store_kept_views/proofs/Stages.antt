@@ -1,16 +1,15 @@
 -- What a table stands for when rows are taken out and put in.
-use Rattle.std.proofs.Common.{◌≡◌, ℕ, ◌+◌, ◌<◌, ◌≤◌, ◌==◌, List, [], ◌∷◌, ◌++◌, Bool, true, false, cond, refl, sym, ◌∙◌, ap, subst, arith, inl, inr, Some, None, Option, length, zero, suc}
+use Rattle.std.proofs.Common.{◌≡◌, ◌<◌, List, [], ◌∷◌, ◌++◌, Bool, true, false, cond, refl, sym, ◌∙◌, ap, subst, inl, inr, Some, None, Option, length}
 use Rattle.std.specs.Prelude.{map, not}
 use Rattle.std.specs.Option.{is_some}
-use Rattle.std.proofs.lemmas.Bool.{cases_Bool, true≢false, eqb-true}
-use Rattle.std.proofs.lemmas.List.{append_assoc, append-nil}
-use Rattle.base_row_laws.specs.Ranked.{Ranked, ranked}
-use Rattle.base_row_laws.specs.Bags.{SameBag, has, IsIdentity}
-use Rattle.base_row_laws.proofs.Bags.{SameBag-append_comm, SameBag-trans, SameBag-append, SameBag-refl, SameBag-sym}
+use Rattle.std.proofs.lemmas.Bool.{cases_Bool, true≢false}
+use Rattle.base_row_laws.specs.Ranked.{Ranked}
+use Rattle.base_row_laws.specs.Bags.{SameBag, has}
+use Rattle.base_row_laws.proofs.Bags.{SameBag-append_comm, SameBag-sym}
 use Rattle.base_value.specs.declared.value.Value.{Value}
 use Rattle.plan_algebra.specs.declared.kept_plan.KeptPlan.{KeptPlan}
-use Rattle.plan_algebra.specs.KeptPlans.{holds_for, selected, key_of}
-use Rattle.store_groups.specs.Groups.{Group, with_row, without_row, is_faultless, HasRow, no_rows}
+use Rattle.plan_algebra.specs.KeptPlans.{selected}
+use Rattle.store_groups.specs.Groups.{Group, with_row, without_row, is_faultless, HasRow}
 use Rattle.store_kept_views.specs.RowGroups.{group_of}
 use Rattle.store_groups.specs.Entries.{Entries, same_key, group_at}
 use Rattle.store_kept_views.specs.Standing.{rows_at, made_at, StandsFor, StandsBy, is_stale, arguments_in}

@@ -1,6 +1,6 @@
 -- Lists of views.
-use Rattle.std.proofs.Common.{◌≡◌, ℕ, ◌+◌, ◌<◌, List, [], ◌∷◌, ◌++◌, refl, sym, ◌∙◌, ap, subst, arith, length, zero, suc}
-use Rattle.std.specs.Prelude.{map, take}
+use Rattle.std.proofs.Common.{◌≡◌, ℕ, ◌+◌, ◌<◌, List, [], ◌∷◌, ◌++◌, sym, ◌∙◌, ap, subst, arith, length, zero, suc}
+use Rattle.std.specs.Prelude.{take}
 use lib.ListN.{get_or}
 use Rattle.std.proofs.lemmas.List.{map-append}
 use Rattle.plan_algebra.specs.declared.kept_plan.KeptPlan.{KeptPlan}

@@ -5,8 +5,8 @@ ghost use Rattle.base_row_laws.specs.Bags.{SameBag};
 ghost use Rattle.base_value.specs.declared.value.Value.{Value as Datum};
 ghost use Rattle.plan_algebra.specs.KeptPlans.{query_rows};
 ghost use Rattle.store_kept_views.specs.Standing.{StandsFor};
-ghost use Rattle.std.specs.Prelude.{◌≡◌, ◌++◌, ◌∷◌, [], IfOk, List, OnOk, length, map};
-ghost use Rattle.std.specs.Prelude.{option_map, slice_get, slice_index_or};
+ghost use Rattle.std.specs.Prelude.{◌≡◌, ◌++◌, ◌∷◌, ◌<◌, [], IfOk, List, OnOk, length, map};
+ghost use Rattle.std.specs.Prelude.{MatchOption, slice_index_or};
 ghost use Rattle.base_value.specs.Truth.{standing_rank};
 ghost use Rattle.expr_aggregates.specs.Values.{number_or_fault};
 ghost use Rattle.store_groups.specs.Groups.{no_rows};
@@ -20,7 +20,7 @@ use base_decimal::{NumberFault, Scale};
 use base_value::{Fault, Standing, Value};
 use plan_algebra::{KeptAggregate, KeptPlan};
 use std::alloc::{AllocError, Global};
-use store_groups::{Cell, Entry, Group, Groups, Page};
+use store_groups::{Cell, Group, GroupRef, Groups, Page};
 
 // The value, or the fault where a fault is the least standing.
 fn unless_fault(least: Standing, value: Value) -> Value
@@ -80,7 +80,7 @@ fn shown_at(aggregates: &[KeptAggregate], rows: u64, cells: &[Cell], place: usiz
 fn value_at(
     aggregates: &[KeptAggregate],
     key: &[Value],
-    group: &Group,
+    group: &GroupRef<'_>,
     place: usize,
 ) -> Result<Value, AllocError>
     ensures { IfOk result (λ v. v
@@ -98,7 +98,7 @@ fn value_at(
 fn put_values(
     plan: &KeptPlan,
     key: &[Value],
-    group: &Group,
+    group: &GroupRef<'_>,
     values: &mut Vec<Value>,
 ) -> Result<(), AllocError>
     ensures row { OnOk result (values.new.items ≡ (output_row plan.now key.now group.now).values) }
@@ -118,7 +118,7 @@ fn put_row(
     alloc: Global,
     plan: &KeptPlan,
     key: &[Value],
-    group: &Group,
+    group: &GroupRef<'_>,
     values: &mut Vec<Value>,
     builder: &mut BatchBuilder,
 ) -> Result<(), AllocError>
@@ -132,21 +132,21 @@ fn put_row(
     Ok(())
 }
 
-// Puts the rows of entries after others.
+// Puts the rows of the entries of a page after others.
 fn put_rows(
     alloc: Global,
     plan: &KeptPlan,
-    entries: &[Entry],
+    page: &Page,
     values: &mut Vec<Value>,
     builder: &mut BatchBuilder,
 ) -> Result<(), AllocError>
     requires { builder.old.width ≡ length plan.now.list }
     ensures width { builder.new.width ≡ builder.old.width }
     ensures rows { OnOk result (builder.new.rows ≡ builder.old.rows
-        ++ map (λ e. output_row plan.now e.0 e.1) entries.now) }
+        ++ map (λ e. output_row plan.now e.0 e.1) page.now) }
 {
-    for entry in entries {
-        put_row(alloc, plan, entry.key(), entry.group(), values, builder)?;
+    for i in 0..page.len() {
+        put_row(alloc, plan, page.key(i), &page.group(i), values, builder)?;
     }
     Ok(())
 }
@@ -165,37 +165,38 @@ fn put_pages(
         ++ map (λ e. output_row plan.now e.0 e.1) (entries_of pages.now)) }
 {
     for page in pages {
-        put_rows(alloc, plan, page.entries(), values, builder)?;
+        put_rows(alloc, plan, page, values, builder)?;
     }
     Ok(())
 }
 
-// The first entry of pages, if there is one.
-fn first_entry(pages: &[Page]) -> Option<&Entry>
-    ensures { option_map (λ e. e.now) result ≡ slice_get (entries_of pages.now) 0 }
+// The first page that has an entry, if there is one.
+fn first_page(pages: &[Page]) -> Option<&Page>
+    ensures { MatchOption result (entries_of pages.now ≡ [])
+        (λ p. (0 < length p.now) × (0 < length (entries_of pages.now))) }
 {
     for page in pages {
-        let first = page.entries().first();
-        if first.is_some() {
-            return first;
+        if page.len() > 0 {
+            return Some(page);
         }
     }
     None
 }
 
-// The rows of the entries of pages, the first of which is given.
+// The rows of the entries of pages. Their columns are those of the first entry of a page.
 fn page_rows(
     alloc: Global,
     plan: &KeptPlan,
-    first: &Entry,
+    first: &Page,
     pages: &[Page],
 ) -> Result<Bag, AllocError>
+    requires { 0 < length first.now }
     ensures rows { IfOk result (λ bag. bag.rows
         ≡ map (λ e. output_row plan.now e.0 e.1) (entries_of pages.now)) }
     ensures width { IfOk result (λ bag. bag.width ≡ length plan.now.list) }
 {
     let mut values = Vec::with_capacity(alloc, plan.list.len())?;
-    put_values(plan, first.key(), first.group(), &mut values)?;
+    put_values(plan, first.key(0), &first.group(0), &mut values)?;
     let mut builder = builder_like(alloc, values.as_slice())?;
     put_pages(alloc, plan, pages, &mut values, &mut builder)?;
     let bag = bag_of(alloc, &builder)?;
@@ -208,8 +209,9 @@ fn empty_row(alloc: Global, plan: &KeptPlan) -> Result<Bag, AllocError>
         ≡ output_row plan.now [] (no_rows (length plan.now.aggregates)) ∷ []) }
     ensures width { IfOk result (λ bag. bag.width ≡ length plan.now.list) }
 {
-    let none = Group::none(alloc, plan.aggregates.len())?;
+    let group = Group::none(alloc, plan.aggregates.len())?;
     let mut values = Vec::with_capacity(alloc, plan.list.len())?;
+    let none = group.seen();
     put_values(plan, &[], &none, &mut values)?;
     let mut builder = builder_like(alloc, values.as_slice())?;
     builder.push_row(alloc, values.as_slice(), none.standing())?;
@@ -223,7 +225,7 @@ fn output_rows(alloc: Global, plan: &KeptPlan, groups: &Groups) -> Result<Bag, A
     ensures width { IfOk result (λ bag. bag.width ≡ length plan.now.list) }
 {
     let pages = groups.pages();
-    if let Some(first) = first_entry(pages) {
+    if let Some(first) = first_page(pages) {
         let bag = page_rows(alloc, plan, first, pages)?;
         return Ok(bag);
     }

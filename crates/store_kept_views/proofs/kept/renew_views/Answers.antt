@@ -1,4 +1,3 @@
-use Rattle.std.proofs.Common.{rules}
 use Rattle.store_kept_views.proofs.ViewLists.{plans_more, kept_more}
 use Rattle.store_kept_views.proofs.kept.renew_views.Goals as goal
 

@@ -1,5 +1,5 @@
 use Rattle.std.proofs.Common.{◌≡◌}
-use Rattle.std.specs.Prelude.{take, map}
+use Rattle.std.specs.Prelude.{take}
 use Rattle.store_kept_views.specs.Kept.{AreKept, plans_of}
 use Rattle.store_kept_views.proofs.kept.renew_views.Given as goal
 

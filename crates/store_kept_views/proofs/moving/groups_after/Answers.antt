@@ -1,15 +1,7 @@
-use Rattle.std.proofs.Common.{◌≡◌, ◌+◌, ◌<◌, List, [], ◌∷◌, ◌++◌, cond, subst, sym, ap, ◌∙◌, refl, arith, true, false}
-use Rattle.std.specs.Prelude.{take}
-use lib.ListN.{drop}
+use Rattle.std.proofs.Common.{[], ◌++◌, subst, sym}
 use Rattle.base_columns.specs.Lists.{one_list}
-use Rattle.base_row_laws.specs.Ranked.{Ranked}
-use Rattle.base_row_laws.specs.Rows.{columns}
-use Rattle.base_value.specs.declared.value.Value.{Value}
-use Rattle.base_value.specs.declared.value.Value.TheVariants.{Null}
-use Rattle.base_value.specs.Truth.{standing_rank}
-use Rattle.plan_algebra.specs.KeptPlans.{selected, key_of}
-use Rattle.store_kept_views.specs.Standing.{StandsBy}
-use Rattle.store_kept_views.specs.Standing.{CanAdd, CanTakeAll, StandsFor}
+use Rattle.plan_algebra.specs.KeptPlans.{selected}
+use Rattle.store_kept_views.specs.Standing.{StandsFor}
 use Rattle.store_kept_views.proofs.Stages.{begun_stands, ended_stands}
 use Rattle.store_kept_views.proofs.moving.groups_after.Goals as goal
 

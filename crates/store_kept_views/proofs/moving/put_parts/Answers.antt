@@ -1,11 +1,8 @@
-use Rattle.std.proofs.Common.{◌≡◌, ◌+◌, ◌<◌, List, [], ◌++◌, cond, subst, sym, ap, ◌∙◌, length}
+use Rattle.std.proofs.Common.{[], ◌++◌, cond, subst, sym}
 use Rattle.std.specs.Prelude.{take}
-use lib.ListN.{drop}
 use Rattle.base_columns.specs.Lists.{one_list}
-use Rattle.base_row_laws.specs.Ranked.{Ranked}
-use Rattle.base_value.specs.declared.value.Value.{Value}
 use Rattle.plan_algebra.specs.KeptPlans.{selected}
-use Rattle.store_kept_views.specs.Standing.{StandsBy, StandsFor}
+use Rattle.store_kept_views.specs.Standing.{StandsBy}
 use Rattle.store_kept_views.proofs.Passing.{begun, selected_none}
 use Rattle.store_kept_views.proofs.PartLists.{more_parts}
 use Rattle.store_kept_views.specs.Standing.{CanAdd}

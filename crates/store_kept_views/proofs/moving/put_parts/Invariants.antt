@@ -1,4 +1,4 @@
-use Rattle.std.proofs.Common.{◌≡◌, List, ◌++◌, [], cond}
+use Rattle.std.proofs.Common.{List, ◌++◌, cond}
 use Rattle.std.specs.Prelude.{take}
 use Rattle.base_columns.specs.Lists.{one_list}
 use Rattle.base_row_laws.specs.Ranked.{Ranked}

@@ -1,11 +1,4 @@
-use Rattle.std.proofs.Common.{◌≡◌, ◌+◌, ◌<◌, ◌≤◌, List, [], ◌++◌, cond, subst, sym, ap, ◌∙◌, length}
-use Rattle.std.specs.Prelude.{take}
-use lib.ListN.{drop}
-use Rattle.base_columns.specs.Lists.{one_list}
-use Rattle.base_row_laws.specs.Ranked.{Ranked}
-use Rattle.base_value.specs.declared.value.Value.{Value}
-use Rattle.plan_algebra.specs.KeptPlans.{selected}
-use Rattle.store_kept_views.specs.Standing.{StandsBy, StandsFor}
+use Rattle.std.proofs.Common.{◌<◌, ◌≤◌, [], subst, ◌∙◌}
 use Rattle.std.proofs.Common.{refl}
 use Rattle.base_columns.specs.Batches.{row_at}
 use Rattle.store_kept_views.proofs.Passing.{all_put, asked_long, begun, put_row_more}

@@ -1,11 +1,10 @@
-use Rattle.std.proofs.Common.{◌≡◌, ◌+◌, ◌<◌, List, [], ◌++◌, cond, subst, sym, ap, ◌∙◌, length}
-use Rattle.std.specs.Prelude.{take}
+use Rattle.std.proofs.Common.{List, [], ◌++◌}
 use lib.ListN.{drop}
 use Rattle.base_columns.specs.Lists.{one_list}
 use Rattle.base_row_laws.specs.Ranked.{Ranked}
 use Rattle.base_value.specs.declared.value.Value.{Value}
 use Rattle.plan_algebra.specs.KeptPlans.{selected}
-use Rattle.store_kept_views.specs.Standing.{StandsBy, StandsFor}
+use Rattle.store_kept_views.specs.Standing.{StandsBy}
 use Rattle.store_kept_views.proofs.moving.take_parts.Given as goal
 
 abbrev pub invariant-loop-part : goal.invariant-loop-part

@@ -3,7 +3,7 @@ use Rattle.std.specs.Prelude.{take, map}
 use Rattle.store_kept_views.specs.Output.{output_row}
 use Rattle.store_kept_views.proofs.output.put_rows.Given as goal
 
-abbrev pub invariant-loop-entry : goal.invariant-loop-entry
-invariant-loop-entry l = (l.builder.width ≡ l.initial.builder.width)
+abbrev pub invariant-loop-i : goal.invariant-loop-i
+invariant-loop-i l = (l.builder.width ≡ l.initial.builder.width)
     × (l.builder.rows ≡ l.initial.builder.rows
-    ++ map (λ e. output_row l.plan e.0 e.1) (take l.entry-index l.entries))
+    ++ map (λ e. output_row l.plan e.0 e.1) (take l.i l.page))

@@ -1,5 +1,5 @@
-use Rattle.std.proofs.Common.{subst, sym, arith}
-use Rattle.store_groups.specs.Entries.{CanTake, group_at}
+use Rattle.std.proofs.Common.{ap, subst, sym, arith}
+use Rattle.store_groups.specs.Entries.{CanTake, group_at, keys_of}
 use Rattle.store_groups.specs.Taken.{IsTaken, left_of}
 use Rattle.store_groups.proofs.PageLists.{at_page, get_there, page_distinct, set_there, table_after, table_with}
 use Rattle.store_groups.proofs.groups.Groups.take_row.Goals as goal
@@ -16,7 +16,7 @@ take_row-requires-clause-can c =
 pub invariant_of-self : goal.invariant_of-self
 invariant_of-self c =
     table_after c.self.invariant c.len.result c.page_of-at.result c.index_mut.result.now c.args.key.now (omega (arith, c.len.ensures, c.self.inside.pages.ok.0)) (at_page c.hash_of-hash.ensures c.len.result c.page_of-at.result c.page_of-at.ensures.value) c.index_mut.ensures.value
-    c.take_row.new.self c.in_err-taken.ensures.err
+    c.take_row.new.self (ap keys_of c.in_err-taken.ensures.err)
 
 pub invariant_of-self-2 : goal.invariant_of-self-2
 invariant_of-self-2 c =

@@ -1,4 +1,4 @@
-use Rattle.std.proofs.Common.{◌≡◌, ◌∙◌, Ok, ap, subst, sym}
+use Rattle.std.proofs.Common.{◌≡◌, ◌∙◌, Ok, ap}
 use Rattle.std.specs.Arc.{arc_value}
 use Rattle.store_state.specs.Refresh.{after}
 use Rattle.store_kept_views.specs.Kept.{KeptRows}

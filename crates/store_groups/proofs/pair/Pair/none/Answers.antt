@@ -1,6 +1,0 @@
-use Rattle.std.proofs.Common.{sym}
-use Rattle.store_groups.proofs.EntryLists.{hash_same}
-use Rattle.store_groups.proofs.pair.Pair.none.Goals as goal
-
-pub invariant_of-result : goal.invariant_of-result
-invariant_of-result c = hash_same (sym c.in_ok-key.ensures) c.requires
