@@ -27,9 +27,9 @@ const JOB: Given = &[
     ("b", COUNT),
 ];
 
-// What is named is opened once and read to its end, and nothing else is called: of a file with bytes
-// three calls each, of an empty one two. An input that is refused leaves those after it unopened, and
-// a bad line that has ended is refused before the next bytes are read.
+// What is named is opened once and read to its end, and nothing else is called: of a file with
+// bytes three calls each, of an empty one two. An input that is refused leaves those after it
+// unopened, and a bad line that has ended is refused before the next bytes are read.
 const CASES: &[Case] = &[
     // The script, the regions and seven empty tables.
     (SESSION, ONE_QUERY, &[], 20),

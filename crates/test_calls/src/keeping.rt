@@ -66,7 +66,8 @@ fn disk_of<R: Abort>(rt: &R, alloc: Global, bytes: Vec<u8>, call: u64) -> MemDis
     MemDisk::new(alloc, name, bytes, failing, 4096).expect(rt, "memory")
 }
 
-/// The status of a job over a disk of which this call fails. Where it is a fault nothing is written.
+/// The status of a job over a disk of which this call fails. Where it is a fault nothing is
+/// written.
 fn status_at<R: Threads + Wait + Sync + Abort>(
     rt: &R,
     alloc: Global,

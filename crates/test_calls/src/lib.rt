@@ -1,7 +1,6 @@
-//! Tests of calls that no run of the program can show: which call of its files, its sink or its disk
-//! fails, how many calls there are, files and a sink that never fail, two sessions that meet the
-//! publisher.
-//! No other crate uses this one.
+//! Tests of calls that no run of the program can show: which call of its files, its sink or its
+//! disk fails, how many calls there are, files and a sink that never fail, two sessions that meet
+//! the publisher. No other crate uses this one.
 #![tactic(auto)]
 
 #[cfg(test)]

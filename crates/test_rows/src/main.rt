@@ -1,6 +1,6 @@
 //! Runs the cases on standard input by the program's one call, over files and a sink in memory, and
-//! prints those that differ and the counts. `tools/rows` makes that input of the pages of cases, and
-//! tells its format.
+//! prints those that differ and the counts. `tools/rows` makes that input of the pages of cases,
+//! and tells its format.
 #![tactic(auto)]
 
 mod runs;
