@@ -1,6 +1,6 @@
-//! Tests of the machine, of refreshes that are compared, of snapshots that are held while others are
-//! published, of two senders through a queue of one place, and of journals on disks that fail or
-//! crash, through public calls. No other crate uses this one.
+//! Tests of the machine, of refreshes that are compared, of snapshots that are held while others
+//! are published, of two senders through a queue of one place, and of journals on disks that fail
+//! or crash, through public calls. No other crate uses this one.
 #![tactic(auto)]
 
 #[cfg(test)]
