@@ -112,15 +112,26 @@ def unescaped(text: bytes) -> bytes:
     return re.sub(rb"\\([rnt\\]|x[0-9a-fA-F]{2})", byte, text)
 
 
-def repeated(line: bytes) -> bytes:
-    """The bytes of a line `COUNT TEXT` or `FIRST-LAST TEXT`."""
-    found = re.fullmatch(rb"(\d+)(?:-(\d+))? (.*)", line)
-    if not found:
-        raise PageError("a line of `repeat` begins with a count or two numbers")
-    first, last, text = found.groups()
-    if last is None:
-        return int(first) * unescaped(text)
-    return b"".join(unescaped(text.replace(b"#", b"%d" % n)) for n in range(int(first), int(last) + 1))
+class Repeated(bytes):
+    """The bytes of a `repeat` text, with what its lines say: between which numbers each is repeated, and the bytes round the number."""
+
+    lines: list[tuple[int, int, list[bytes]]]
+
+
+def repeated(lines: list[bytes]) -> Repeated:
+    """The bytes of lines `COUNT TEXT` or `FIRST-LAST TEXT`."""
+    said = []
+    for line in lines:
+        found = re.fullmatch(rb"(\d+)(?:-(\d+))? (.*)", line)
+        if not found:
+            raise PageError("a line of `repeat` begins with a count or two numbers")
+        first, last, text = found.groups()
+        parts = [text] if last is None else text.split(b"#")
+        numbers = (1, int(first)) if last is None else (int(first), int(last))
+        said.append((*numbers, [unescaped(part) for part in parts]))
+    whole = Repeated(b"".join((b"%d" % n).join(parts) for first, last, parts in said for n in range(first, last + 1)))
+    whole.lines = said
+    return whole
 
 
 def chosen(lines: list[bytes]) -> list[bytes]:
@@ -139,7 +150,7 @@ def text_of(how: list[str], lines: list[bytes]) -> bytes:
     if how == ["escaped"]:
         return b"".join(map(unescaped, lines))
     if how == ["repeat"]:
-        return b"".join(map(repeated, lines))
+        return repeated(lines)
     if how:
         raise PageError(f"unknown words {' '.join(how)!r}")
     return b"".join(line + b"\n" for line in lines)

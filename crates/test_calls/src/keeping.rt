@@ -1,56 +1,32 @@
-//! A job that keeps its refreshes in a journal, over a disk whose calls fail.
-use crate::runs::{job_folder, run_job};
+//! A job that keeps its refreshes in a journal, over a disk that fails or crashes.
+use crate::runs::{Given, run_job};
 use app_main::Status;
 use base_disk::MemDisk;
 use base_io::OpenGate;
-use std::alloc::{AllocError, Global};
+use std::alloc::Global;
 use std::process::Abort;
 use std::sync::Wait;
-use std::test::Fail;
 use std::thread::Threads;
 
+const COUNT: &str = "select count(*) from orders;";
+
 /// A session, and a refresh before it that a journal keeps.
-const JOB: &str = "session a\njournal k\nbefore insert 1\n";
+const JOB: Given = &[
+    ("j", "session a\njournal k\nbefore insert 1\n"),
+    ("a", COUNT),
+];
 
 /// A session, and a journal that it only begins with.
-const READING: &str = "session a\njournal k\n";
+const READING: Given = &[("j", "session a\njournal k\n"), ("a", COUNT)];
 
 /// A session beside two senders, whose refreshes a journal keeps.
-const SENDING: &str = "session a\njournal k\nsend1 delete 1\nsend2 insert 1\n";
-
-/// What the job prints over an empty journal.
-const FIRST: &str = "\
-session 1
-[1] version 1 rows 1
-3
-refresh 1 version 1
-closing version 1
-region rows 5
-nation rows 0
-part rows 0
-supplier rows 0
-partsupp rows 0
-customer rows 2
-orders rows 3
-lineitem rows 1
-";
-
-/// What it prints over the journal that it left.
-const SECOND: &str = "\
-session 1
-[1] version 1 rows 1
-3
-refresh 1 refused 41 OrderExists 9
-closing version 1
-region rows 5
-nation rows 0
-part rows 0
-supplier rows 0
-partsupp rows 0
-customer rows 2
-orders rows 3
-lineitem rows 1
-";
+const SENDING: Given = &[
+    (
+        "j",
+        "session a\njournal k\nsend1 delete 1\nsend2 insert 1\n",
+    ),
+    ("a", COUNT),
+];
 
 /// What a job without refreshes prints over the tables, the first set's insert being kept or not.
 const EMPTY: &str = "\
@@ -83,95 +59,68 @@ orders rows 3
 lineitem rows 1
 ";
 
-/// A disk with a file of these bytes, of which these calls fail.
-fn disk_of(alloc: Global, bytes: Vec<u8>, failing: &[u64]) -> Result<MemDisk, AllocError> {
-    let name = String::from_str(alloc, "k")?;
-    let failing = Vec::from_slice(alloc, failing)?;
-    MemDisk::new(alloc, name, bytes, failing, 4096)
+/// A disk with a file of these bytes, of which this call fails.
+fn disk_of<R: Abort>(rt: &R, alloc: Global, bytes: Vec<u8>, call: u64) -> MemDisk {
+    let name = String::from_str(alloc, "k").expect(rt, "memory");
+    let failing = Vec::from_slice(alloc, &[call]).expect(rt, "memory");
+    MemDisk::new(alloc, name, bytes, failing, 4096).expect(rt, "memory")
 }
 
-/// Runs the job over the first set's folder and this disk. The status, and the text.
-fn run_kept<R: Threads + Wait + Sync>(
+/// The status of a job over a disk of which this call fails. Where it is a fault nothing is
+/// written.
+fn status_at<R: Threads + Wait + Sync + Abort>(
     rt: &R,
     alloc: Global,
-    job: &str,
-    disk: &mut MemDisk,
-) -> Result<(Status, Vec<u8>), AllocError> {
-    let scripts = [("j", job), ("a", "select count(*) from orders;")];
-    let mut files = job_folder(alloc, &scripts, &[])?;
-    run_job(rt, alloc, &mut files, disk, &OpenGate)
-}
-
-/// The next run begins where the last one ended.
-#[test]
-fn a_journal_is_read_again(rt: HostRuntime) -> Result<(), Fail> {
-    let alloc = rt.alloc();
-    let mut disk = disk_of(alloc, Vec::new(alloc), &[])?;
-    let (status, text) = run_kept(&rt, alloc, JOB, &mut disk)?;
-    assert_eq!(rt; status, Status::Done);
-    assert_eq!(rt; text.as_slice(), FIRST.as_bytes());
-    let (status, text) = run_kept(&rt, alloc, JOB, &mut disk)?;
-    assert_eq!(rt; status, Status::SomeRefused);
-    assert_eq!(rt; text.as_slice(), SECOND.as_bytes());
-    Ok(())
-}
-
-/// Runs the job over a disk of which this call fails, and compares the status. Where it is a fault
-/// nothing is written.
-fn expect_status<R: Threads + Wait + Sync + Abort>(
-    rt: &R,
-    alloc: Global,
-    job: &str,
+    job: Given,
     call: u64,
-    status: Status,
-) -> Result<(), AllocError> {
-    let mut disk = disk_of(alloc, Vec::new(alloc), &[call])?;
-    let (answer, text) = run_kept(rt, alloc, job, &mut disk)?;
-    assert_eq!(rt; answer, status);
-    assert_eq!(rt; text.is_empty(), status == Status::DiskFault);
-    Ok(())
+) -> Status {
+    let mut disk = disk_of(rt, alloc, Vec::new(alloc), call);
+    let (status, text) = run_job(rt, alloc, job, &mut disk, &OpenGate);
+    assert!(rt; text.is_empty() == (status == Status::DiskFault));
+    status
+}
+
+/// Expects that a job ends at each of so many calls of its disk that fails, and calls it no more.
+fn expect_calls<R: Threads + Wait + Sync + Abort>(rt: &R, alloc: Global, job: Given, calls: u64) {
+    for call in 1..=calls {
+        assert!(rt; status_at(rt, alloc, job, call) == Status::DiskFault);
+    }
+    assert!(rt; status_at(rt, alloc, job, calls.saturating_add(1)) == Status::Done);
 }
 
 // The file is reached and its size asked for, the journal is made by two calls, and an entry is put
-// by four.
+// by four. The threads of two senders end too.
 #[test]
-fn a_disk_that_fails_ends_the_job(rt: HostRuntime) -> Result<(), Fail> {
-    let alloc = rt.alloc();
-    for call in 1..9 {
-        expect_status(&rt, alloc, JOB, call, Status::DiskFault)?;
-    }
-    expect_status(&rt, alloc, JOB, 9, Status::Done)?;
-    Ok(())
+fn a_disk_that_fails_ends_the_job(rt: HostRuntime) {
+    expect_calls(&rt, rt.alloc(), JOB, 8);
+    expect_calls(&rt, rt.alloc(), SENDING, 12);
 }
 
-/// Their threads end, and the job's too.
-#[test]
-fn a_disk_that_fails_ends_a_job_of_senders(rt: HostRuntime) -> Result<(), Fail> {
-    let alloc = rt.alloc();
-    for call in 1..13 {
-        expect_status(&rt, alloc, SENDING, call, Status::DiskFault)?;
-    }
-    expect_status(&rt, alloc, SENDING, 13, Status::Done)?;
-    Ok(())
+/// Whether a job that reads what a crash left after so many writes and syncs finds the refresh that
+/// was being stored, or none; at the end it must be there.
+fn is_read<R: Threads + Wait + Sync + Abort>(
+    rt: &R,
+    alloc: Global,
+    disk: &MemDisk,
+    count: usize,
+    fill: u8,
+) -> bool {
+    let image = disk.image(alloc, count, fill).expect(rt, "memory");
+    let mut left = disk_of(rt, alloc, image.expect(rt, "an image"), 0);
+    let (status, text) = run_job(rt, alloc, READING, &mut left, &OpenGate);
+    let is_kept = text.as_slice() == KEPT.as_bytes();
+    status == Status::Done && (is_kept || (count < 6 && text.as_slice() == EMPTY.as_bytes()))
 }
 
-/// What a crash leaves after so many writes and syncs of the job is read by the next one as no
-/// refresh or as the one that was being stored, and in the end as that one.
 #[test]
-fn each_crash_leaves_a_journal(rt: HostRuntime) -> Result<(), Fail> {
+fn each_crash_leaves_a_journal(rt: HostRuntime) {
     let alloc = rt.alloc();
-    let mut disk = disk_of(alloc, Vec::new(alloc), &[])?;
-    let _first = run_kept(&rt, alloc, JOB, &mut disk)?;
+    let mut disk = disk_of(&rt, alloc, Vec::new(alloc), 0);
+    let _first = run_job(&rt, alloc, JOB, &mut disk, &OpenGate);
     // The journal is made by a write and a sync, and the entry put by two of each.
-    for count in 2..=6usize {
+    for count in 2..=6 {
         for fill in [0u8, 1, 7, 255] {
-            let image = disk.image(alloc, count, fill)?.ok_or("an image")?;
-            let mut left = disk_of(alloc, image, &[])?;
-            let (status, text) = run_kept(&rt, alloc, READING, &mut left)?;
-            assert_eq!(rt; status, Status::Done);
-            let is_kept = text.as_slice() == KEPT.as_bytes();
-            assert!(rt; is_kept || (count < 6 && text.as_slice() == EMPTY.as_bytes()));
+            assert!(rt; is_read(&rt, alloc, &disk, count, fill));
         }
     }
-    Ok(())
 }

@@ -3,17 +3,20 @@ use crate::disks::SureDisk;
 use app_main::{Status, tpch};
 use base_disk::Disk;
 use base_io::{Files, Gate, MemFile, MemFiles, MemSink, OpenGate, Sink};
-use std::alloc::{AllocError, Global};
+use std::alloc::Global;
 use std::process::Abort;
 use std::sync::Wait;
 use std::thread::Threads;
+
+/// The names of files and their texts.
+pub(crate) type Given = &'static [(&'static str, &'static str)];
 
 /// The five regions.
 pub(crate) const REGIONS: &str =
     "0|AFRICA|a|\n1|AMERICA|b|\n2|ASIA|c|\n3|EUROPE|d|\n4|MIDDLE EAST|e|\n";
 
 /// The tables of a folder `d` that have rows, and its first refresh set.
-pub(crate) const FIRST_SET: [(&str, &str); 6] = [
+pub(crate) const FIRST_SET: Given = &[
     ("d/region.tbl", REGIONS),
     (
         "d/customer.tbl",
@@ -34,93 +37,64 @@ pub(crate) const FIRST_SET: [(&str, &str); 6] = [
 /// A script of one query.
 pub(crate) const SCRIPT: &str = "select r_name from region where r_regionkey < 2;";
 
-/// The files of the tables.
-pub(crate) const TABLES: [&str; 8] = [
-    "d/region.tbl",
-    "d/nation.tbl",
-    "d/part.tbl",
-    "d/supplier.tbl",
-    "d/partsupp.tbl",
-    "d/customer.tbl",
-    "d/orders.tbl",
-    "d/lineitem.tbl",
+/// That script, and the regions.
+pub(crate) const ONE_QUERY: Given = &[("s", SCRIPT), ("d/region.tbl", REGIONS)];
+
+/// A session's words, which name the script `s`.
+pub(crate) const SESSION: &[&str] = &["session", "d", "s"];
+
+/// A job's words, which name the job `j`.
+pub(crate) const THROUGHPUT: &[&str] = &["throughput", "d", "j"];
+
+/// The tables, empty.
+const EMPTY_TABLES: Given = &[
+    ("d/region.tbl", ""),
+    ("d/nation.tbl", ""),
+    ("d/part.tbl", ""),
+    ("d/supplier.tbl", ""),
+    ("d/partsupp.tbl", ""),
+    ("d/customer.tbl", ""),
+    ("d/orders.tbl", ""),
+    ("d/lineitem.tbl", ""),
 ];
 
 /// The words as owned texts.
-pub(crate) fn words_of(alloc: Global, words: &[&str]) -> Result<Vec<String>, AllocError> {
+pub(crate) fn words_of<R: Abort>(rt: &R, alloc: Global, words: &[&str]) -> Vec<String> {
     let mut owned = Vec::new(alloc);
     for word in words {
-        owned.push(String::from_str(alloc, word)?)?;
+        let word = String::from_str(alloc, word).expect(rt, "memory");
+        owned.push(word).expect(rt, "memory");
     }
-    Ok(owned)
+    owned
 }
 
-/// Files of these names and texts, of which these calls fail.
-pub(crate) fn files_of(
-    alloc: Global,
-    files: &[(&str, &str)],
-    failing: &[u64],
-) -> Result<MemFiles, AllocError> {
-    let mut held = Vec::new(alloc);
-    for (name, text) in files {
-        let name = String::from_str(alloc, name)?;
-        let bytes = Vec::from_slice(alloc, text.as_bytes())?;
-        held.push(MemFile { name, bytes })?;
+/// Puts files behind others.
+fn put_files<R: Abort>(rt: &R, alloc: Global, files: &mut Vec<MemFile>, given: Given) {
+    for (name, text) in given {
+        let name = String::from_str(alloc, name).expect(rt, "memory");
+        let bytes = Vec::from_slice(alloc, text.as_bytes()).expect(rt, "memory");
+        files.push(MemFile { name, bytes }).expect(rt, "memory");
     }
-    Ok(MemFiles::new(held, Vec::from_slice(alloc, failing)?))
 }
 
-/// Runs words over files, a sink, a disk and a gate.
-pub(crate) fn run<R: Threads + Wait + Sync, F: Files, S: Sink, D: Disk + Send, G: Gate + Sync>(
-    rt: &R,
-    alloc: Global,
-    words: &[&str],
-    files: &mut F,
-    out: &mut S,
-    disk: &mut D,
-    gate: &G,
-) -> Result<Status, AllocError> {
-    let words = words_of(alloc, words)?;
-    Ok(tpch(rt, alloc, &words, files, out, disk, gate))
+/// These files and those of a set, with the tables, which are empty where neither has them: of two
+/// files with one name the first one counts.
+pub(crate) fn files_of<R: Abort>(rt: &R, alloc: Global, own: Given, set: Given) -> Vec<MemFile> {
+    let mut files = Vec::new(alloc);
+    for given in [own, set, EMPTY_TABLES] {
+        put_files(rt, alloc, &mut files, given);
+    }
+    files
 }
 
-/// Runs the job `j` over files. The status, and the text.
-pub(crate) fn run_job<R: Threads + Wait + Sync, D: Disk + Send, G: Gate + Sync>(
+/// Files of which these calls fail.
+pub(crate) fn failing<R: Abort>(
     rt: &R,
     alloc: Global,
-    files: &mut MemFiles,
-    disk: &mut D,
-    gate: &G,
-) -> Result<(Status, Vec<u8>), AllocError> {
-    let mut out = sink(alloc);
-    let words = ["throughput", "d", "j"];
-    let status = run(rt, alloc, &words, files, &mut out, disk, gate)?;
-    Ok((status, out.bytes))
-}
-
-/// Runs the words over the files, with a sink of which these calls fail, and compares the status
-/// and the text.
-pub(crate) fn expect_run<R: Threads + Wait + Sync + Abort>(
-    rt: &R,
-    alloc: Global,
-    words: &[&str],
-    mut files: MemFiles,
-    mut out: MemSink,
-    status: Status,
-    text: &str,
-) -> Result<(), AllocError> {
-    let answer = run(
-        rt,
-        alloc,
-        words,
-        &mut files,
-        &mut out,
-        &mut SureDisk,
-        &OpenGate,
-    )?;
-    assert_eq!(rt; answer, status, "with {text}");
-    assert_eq!(rt; out.bytes.as_slice(), text.as_bytes());
-    Ok(())
+    files: Vec<MemFile>,
+    calls: &[u64],
+) -> MemFiles {
+    MemFiles::new(files, Vec::from_slice(alloc, calls).expect(rt, "memory"))
 }
 
 /// A sink that takes all that it is given.
@@ -128,33 +102,29 @@ pub(crate) fn sink(alloc: Global) -> MemSink {
     MemSink::new(Vec::new(alloc), usize::MAX, Vec::new(alloc))
 }
 
-/// The folder of the first set, with a job and its scripts, of which these calls fail.
-pub(crate) fn job_folder<'a>(
+/// Runs words over files and a sink, without a disk.
+pub(crate) fn run<R: Threads + Wait + Sync + Abort, F: Files, S: Sink>(
+    rt: &R,
     alloc: Global,
-    scripts: &[(&'a str, &'a str)],
-    failing: &[u64],
-) -> Result<MemFiles, AllocError> {
-    let mut files = Vec::from_slice(alloc, scripts)?;
-    files.extend_from_slice(&FIRST_SET)?;
-    folder_of(alloc, "", &files, failing)
+    words: &[&str],
+    files: &mut F,
+    out: &mut S,
+) -> Status {
+    let words = words_of(rt, alloc, words);
+    tpch(rt, alloc, &words, files, out, &mut SureDisk, &OpenGate)
 }
 
-/// The files of a folder `d` that has the eight tables, all of them empty but for those given, and
-/// a script `s`.
-pub(crate) fn folder_of<'a>(
+/// Runs the job `j` over its files and those of the first set. The status, and the text.
+pub(crate) fn run_job<R: Threads + Wait + Sync + Abort, D: Disk + Send, G: Gate + Sync>(
+    rt: &R,
     alloc: Global,
-    script: &'a str,
-    tables: &[(&'a str, &'a str)],
-    failing: &[u64],
-) -> Result<MemFiles, AllocError> {
-    let mut files = vec![in alloc; ("s", script)]?;
-    for (name, text) in tables {
-        files.push((*name, *text))?;
-    }
-    for name in TABLES {
-        if !tables.iter().any(|(given, _)| *given == name) {
-            files.push((name, ""))?;
-        }
-    }
-    files_of(alloc, &files, failing)
+    own: Given,
+    disk: &mut D,
+    gate: &G,
+) -> (Status, Vec<u8>) {
+    let words = words_of(rt, alloc, THROUGHPUT);
+    let mut files = MemFiles::new(files_of(rt, alloc, own, FIRST_SET), Vec::new(alloc));
+    let mut out = sink(alloc);
+    let status = tpch(rt, alloc, &words, &mut files, &mut out, disk, gate);
+    (status, out.bytes)
 }

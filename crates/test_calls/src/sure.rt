@@ -6,13 +6,12 @@ ghost use Rattle.app_main.specs.Words.{command_of};
 ghost use Rattle.base_io.specs.Memory.{folder_of};
 
 use crate::disks::SureDisk;
-use crate::runs::{REGIONS, SCRIPT, folder_of, run, sink, words_of};
+use crate::runs::{Given, ONE_QUERY, SCRIPT, SESSION, failing, files_of, run, sink, words_of};
 use app_main::{Status, tpch};
-use base_io::{Files, MemSink, OpenGate, Sink, SureFiles, SureSink};
-use std::alloc::{AllocError, Global};
+use base_io::{MemSink, OpenGate, SureFiles, SureSink};
+use std::alloc::Global;
 use std::process::Abort;
 use std::sync::Wait;
-use std::test::Fail;
 use std::thread::Threads;
 
 /// Runs words over files and a sink that never fail: a command whose files are of their forms is
@@ -33,59 +32,61 @@ fn run_surely<R: Threads + Wait + Sync>(
     tpch(rt, alloc, words, files, out, &mut SureDisk, &OpenGate)
 }
 
-/// Files that never fail, which hold the tables and this script.
-fn sure_files(alloc: Global, script: &str) -> Result<SureFiles, AllocError> {
-    let files = folder_of(alloc, script, &[("d/region.tbl", REGIONS)], &[])?;
-    Ok(SureFiles::new(files.folder.files))
-}
+/// Words, files, and the status.
+type Case = (&'static [&'static str], Given, Status);
 
-const STATUSES: [(&[&str], &str, Status); 5] = [
-    (&["session", "d", "s"], SCRIPT, Status::Done),
-    (&["session", "d", "s"], "drop view v;", Status::SomeRefused),
-    (&["session", "d", "s"], "select", Status::InputRefused),
-    (&["session", "d"], SCRIPT, Status::Usage),
-    (&["check", "e"], SCRIPT, Status::InputRefused),
+const CASES: &[Case] = &[
+    (SESSION, ONE_QUERY, Status::Done),
+    (SESSION, &[("s", "drop view v;")], Status::SomeRefused),
+    (SESSION, &[("s", "select")], Status::InputRefused),
+    (&["session", "d"], &[("s", SCRIPT)], Status::Usage),
+    (&["check", "e"], ONE_QUERY, Status::InputRefused),
 ];
 
-#[test]
-fn statuses_without_faults(rt: HostRuntime) -> Result<(), Fail> {
-    let alloc = rt.alloc();
-    for (words, script, status) in &STATUSES {
-        let words = words_of(alloc, words)?;
-        let mut files = sure_files(alloc, script)?;
-        let mut out = SureSink::new(Vec::new(alloc));
-        assert_eq!(rt;
-            run_surely(&rt, alloc, &words, &mut files, &mut out),
-            *status
-        );
-        assert!(rt; !out.bytes.is_empty());
-    }
-    Ok(())
+/// Files that never fail.
+fn sure_files<R: Abort>(rt: &R, alloc: Global, own: Given) -> SureFiles {
+    SureFiles::new(files_of(rt, alloc, own, &[]))
 }
 
-/// Runs a session over these files and this sink, and compares the status.
-fn expect_status<R: Threads + Wait + Sync + Abort, F: Files, S: Sink>(
+/// Whether a case has its status, and prints something.
+fn holds<R: Threads + Wait + Sync + Abort>(rt: &R, alloc: Global, case: &Case) -> bool {
+    let (words, own, status) = case;
+    let words = words_of(rt, alloc, words);
+    let mut files = sure_files(rt, alloc, own);
+    let mut out = SureSink::new(Vec::new(alloc));
+    run_surely(rt, alloc, &words, &mut files, &mut out) == *status && !out.bytes.is_empty()
+}
+
+#[test]
+fn statuses_without_faults(rt: HostRuntime) {
+    for case in CASES {
+        assert!(rt; holds(&rt, rt.alloc(), case));
+    }
+}
+
+/// The status of the query over files whose seventh call fails, and a sink that never fails.
+fn status_of_reading<R: Threads + Wait + Sync + Abort>(rt: &R, alloc: Global) -> Status {
+    let mut files = failing(rt, alloc, files_of(rt, alloc, ONE_QUERY, &[]), &[7]);
+    let mut out = SureSink::new(Vec::new(alloc));
+    run(rt, alloc, SESSION, &mut files, &mut out)
+}
+
+/// Its status over files that never fail, and a sink.
+fn status_of_writing<R: Threads + Wait + Sync + Abort>(
     rt: &R,
     alloc: Global,
-    files: &mut F,
-    out: &mut S,
-    status: Status,
-) -> Result<(), AllocError> {
-    let words = ["session", "d", "s"];
-    let answer = run(rt, alloc, &words, files, out, &mut SureDisk, &OpenGate)?;
-    assert_eq!(rt; answer, status);
-    Ok(())
+    mut out: MemSink,
+) -> Status {
+    let mut files = sure_files(rt, alloc, ONE_QUERY);
+    run(rt, alloc, SESSION, &mut files, &mut out)
 }
 
 #[test]
-fn faults_on_one_side(rt: HostRuntime) -> Result<(), Fail> {
+fn faults_on_one_side(rt: HostRuntime) {
     let alloc = rt.alloc();
-    let mut failing = folder_of(alloc, SCRIPT, &[("d/region.tbl", REGIONS)], &[7])?;
-    let mut sure = SureSink::new(Vec::new(alloc));
-    expect_status(&rt, alloc, &mut failing, &mut sure, Status::ReadFault)?;
-    let mut sure = sure_files(alloc, SCRIPT)?;
-    let mut failing = MemSink::new(Vec::new(alloc), usize::MAX, Vec::from_slice(alloc, &[1])?);
-    expect_status(&rt, alloc, &mut sure, &mut failing, Status::WriteFault)?;
-    expect_status(&rt, alloc, &mut sure, &mut sink(alloc), Status::Done)?;
-    Ok(())
+    assert!(rt; status_of_reading(&rt, alloc) == Status::ReadFault);
+    let first = Vec::from_slice(alloc, &[1]).expect(&rt, "memory");
+    let failing = MemSink::new(Vec::new(alloc), usize::MAX, first);
+    assert!(rt; status_of_writing(&rt, alloc, failing) == Status::WriteFault);
+    assert!(rt; status_of_writing(&rt, alloc, sink(alloc)) == Status::Done);
 }

@@ -1,6 +1,6 @@
 //! Tests of public calls that no run of the program makes: expressions over one row, all
-//! combinations of two bags, written decimals, and files with a lower limit. No other crate uses
-//! this one.
+//! combinations of two bags, scans that state their rows and groups, written decimals, and files
+//! with a lower limit. No other crate uses this one.
 #![tactic(auto)]
 
 #[cfg(test)]
@@ -9,5 +9,7 @@ mod combinations;
 mod expressions;
 #[cfg(test)]
 mod limits;
+#[cfg(test)]
+mod scans;
 #[cfg(test)]
 mod single_calls;

@@ -1,2 +1,0 @@
-mod GivenTwice
-mod Storable

@@ -1,7 +1,0 @@
-use Rattle.std.proofs.Common.{◌≡◌}
-use Rattle.base_refusals.specs.declared.refresh.RefreshFile.TheVariants.{Delete}
-use Rattle.base_schema.specs.LineForm.{refresh_form}
-use Rattle.test_versions.proofs.files.delete.Given as goal
-
-abbrev pub invariant-loop-piece : goal.invariant-loop-piece
-invariant-loop-piece l = l.reader.lines.form ≡ refresh_form Delete

@@ -1,4 +1,0 @@
-use Rattle.test_versions.proofs.snapshots.has_base.Given as goal
-
-abbrev pub ghosts-scanned : goal.ghosts-scanned
-ghosts-scanned a = record { name = a.blank.name; parts = a.blank.parts }
