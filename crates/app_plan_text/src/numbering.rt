@@ -4,8 +4,8 @@ use crate::writer::Piece;
 use base_schema::TableName;
 use std::alloc::Global;
 
-/// The numbers and names that were given so far. A query or a tree is put twice, and it is known the
-/// second time which tables are scanned more than once.
+/// The numbers and names that were given so far. A query or a tree is put twice: the second time it
+/// is known which tables are scanned more than once.
 #[derive(Clone, Copy)]
 pub struct Numbering {
     // How often each table is scanned, by the tables' numbers, where that is known.
