@@ -3,8 +3,8 @@ use app_plan_figures::NodeFigures;
 use app_plan_text::{Piece, TextWriter};
 
 /// Writes what each node of a plan gives, and how it finds its pairs where it is a join. The words
-/// stand between two nodes; before the number, the rows, the bytes and the time; behind that; before
-/// and behind the way of a join; and at the end.
+/// stand between two nodes; before the number, the rows, the bytes and the time; behind the time;
+/// before and behind the way of a join; and at the end.
 pub fn put_figures(out: &mut TextWriter, figures: &[NodeFigures], words: &[&[u8]; 9]) {
     for (number, node) in figures.iter().enumerate() {
         if number > 0 {
