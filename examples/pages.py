@@ -24,8 +24,9 @@ they are given. Lines of a case before its first `--`:
 - `without NAME` takes a file or the folder `d` away, and `folder NAME` makes a folder of that name,
 - `twice` runs it twice, and the second run must print the same,
 - `into FILE` gives the program that file for its standard output: nothing of it is compared,
-- `run WORD..` gives the program's words, quoted as a shell does where they have blanks, and
-  `make WORD..` runs the program `make_data` with these words instead, and `show WORD..` `show_plan`.
+- `run WORD..` gives the program's words, quoted as a shell does where they have blanks,
+  `show WORD..` the same where it is started under the name `show_plan`, and `make WORD..` runs the
+  program `make_data` with these words instead.
 
 `-- FILE` gives a file's lines. `-- out STATUS` gives the exit status and all that is printed;
 `-- head STATUS` the first line, where * is any text, and `-- end STATUS` what is printed from the line

@@ -202,19 +202,6 @@ fn put_runs<R: Threads + Sync + Clock, T: Tables>(
     Ok(())
 }
 
-/// The rows of each node of a plan.
-fn node_runs<R: Threads + Sync + Clock, T: Tables>(
-    rt: &R,
-    alloc: Global,
-    plan: FlatPlan,
-    tables: &T,
-) -> Result<Vec<NodeRun>, AllocError> {
-    let mut runs = Vec::new(alloc);
-    put_runs(rt, alloc, &mut runs, plan, tables)?;
-    runs.reverse();
-    Ok(runs)
-}
-
 /// How nodes of these rows find their pairs under a condition. Without one these are the partners
 /// for a scalar subquery.
 fn way_of_sides(
@@ -290,6 +277,8 @@ pub fn node_figures<R: Threads + Sync + Clock, T: Tables>(
     plan: FlatPlan,
     tables: &T,
 ) -> Result<Vec<NodeFigures>, AllocError> {
-    let runs = node_runs(rt, alloc, plan, tables)?;
+    let mut runs = Vec::new(alloc);
+    put_runs(rt, alloc, &mut runs, plan, tables)?;
+    runs.reverse();
     figures_of_runs(alloc, nodes, runs.as_slice())
 }

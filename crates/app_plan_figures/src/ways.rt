@@ -78,44 +78,23 @@ fn are_first(matched: &[(u32, u32)]) -> bool
     true
 }
 
-/// Whether the first ones of keys are all this one, and the second ones not below 0.
-fn are_narrow(keys: &[(i64, i64)], first: i64) -> bool {
-    for key in keys {
-        if key.0 != first || key.1 < 0 {
-            return false;
-        }
-    }
-    true
-}
-
-/// The least second one of keys, and the greatest that isn't below 0.
-fn bounds_of(keys: &[(i64, i64)]) -> (i64, i64) {
-    let mut low = i64::MAX;
-    let mut high: i64 = 0;
-    for key in keys {
-        low = low.min(key.1);
-        high = high.max(key.1);
-    }
-    (low, high)
-}
-
-/// How many numbers there are from one to another.
-fn count_between(low: i64, high: i64) -> Option<usize> {
-    match usize::try_from(high.saturating_sub(low)) {
-        Ok(width) => width.checked_add(1),
-        Err(_) => None,
-    }
-}
-
 /// How many numbers the range of keys has: of the second ones where the first ones are all the same
 /// and the second ones not below 0.
 fn range_of(keys: &[(i64, i64)]) -> Option<usize> {
     let first = keys.first()?.0;
-    if !are_narrow(keys, first) {
-        return None;
+    let mut low = i64::MAX;
+    let mut high: i64 = 0;
+    for key in keys {
+        if key.0 != first || key.1 < 0 {
+            return None;
+        }
+        low = low.min(key.1);
+        high = high.max(key.1);
     }
-    let (low, high) = bounds_of(keys);
-    count_between(low, high)
+    match usize::try_from(high.saturating_sub(low)) {
+        Ok(width) => width.checked_add(1),
+        Err(_) => None,
+    }
 }
 
 /// How the rows of these keys are found, the side with fewer rows by a table of its keys: a list

@@ -10,10 +10,7 @@ use base_schema::TableName;
 use base_set_rows::SetOperation;
 use expr_scalar::Expr;
 use sql_bound_query::SetColumn;
-use std::alloc::{AllocError, Global};
-
-/// The names of the rows in sight, the innermost query's last.
-pub type Sight = Vec<Names>;
+use std::alloc::Global;
 
 /// A bound query that was shown.
 pub struct ShownQuery {
@@ -85,56 +82,20 @@ pub fn put_clause(
         detail,
         columns: NameList::new(alloc),
     };
-    let line = row.line(alloc, block.number, page.depth, kind, Vec::new(alloc), None);
+    let line = row.line(alloc, block.number, page.depth, kind, &[], None);
     page.put(block.next, line);
     block.next = block.next.saturating_add(1);
 }
 
-/// Ends a query: the line of SELECT before the other clauses.
+/// Ends a query: the line of SELECT before the other clauses. Its rows are out of sight.
 pub fn end_select(alloc: Global, page: &mut Page, block: Block, list: RowWriter) -> ShownQuery {
     let RowWriter { detail, columns } = list;
     put_clause(alloc, page, &mut block.at_first(), b"select", detail);
+    page.leave();
     ShownQuery {
         number: block.number,
         columns: page.names(alloc, columns.finish()),
     }
-}
-
-/// Appends a copy of a row's names.
-fn push_row(alloc: Global, rows: &mut Sight, row: &[Vec<u8>]) -> Result<(), AllocError> {
-    let mut copy = NameList::new(alloc);
-    copy.put_all(alloc, row);
-    rows.push(copy.finish()?)?;
-    Ok(())
-}
-
-/// The names in sight, and those of one row more.
-fn rows_with(alloc: Global, sight: &[Names], row: &[Vec<u8>]) -> Result<Sight, AllocError> {
-    let mut all = Vec::new(alloc);
-    for names in sight {
-        push_row(alloc, &mut all, names.as_slice())?;
-    }
-    push_row(alloc, &mut all, row)?;
-    Ok(all)
-}
-
-/// The names in sight, and those of one row more; none where memory ran out.
-pub fn with_row(alloc: Global, page: &mut Page, sight: &[Names], row: &[Vec<u8>]) -> Sight {
-    page.rows(alloc, rows_with(alloc, sight, row))
-}
-
-/// The names of the row this many levels out.
-pub fn row_at(sight: &[Names], level: u32) -> &[Vec<u8>] {
-    let behind = (level as usize).saturating_add(1);
-    match sight.get(sight.len().saturating_sub(behind)) {
-        Some(names) if behind <= sight.len() => names.as_slice(),
-        _ => &[],
-    }
-}
-
-/// The name of the column at a place of the row this many levels out.
-pub fn seen_at(sight: &[Names], level: u32, place: u32) -> &[u8] {
-    Row::of(row_at(sight, level)).name(place)
 }
 
 /// Appends a table to FROM, under another name where it stands more than once.

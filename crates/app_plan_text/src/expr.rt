@@ -1,7 +1,7 @@
 //! Expressions as SQL writes them, over the names of their columns.
 use crate::literal::{push_literal, push_quoted};
 use crate::names::Row;
-use crate::writer::{Piece, TextWriter};
+use crate::writer::TextWriter;
 use expr_aggregates::AggregateFunction;
 use expr_scalar::{Arithmetic, Branch, Comparison, DatePart, Expr, Operation};
 use plan_algebra::Aggregate;
@@ -27,13 +27,12 @@ const ATOM: Level = 8;
 
 /// How tightly a chain of operations binds.
 fn chain_level(operations: &[Operation]) -> Level {
-    let is_product = operations.iter().all(|operation| {
-        matches!(
-            operation.operator,
-            Arithmetic::Multiply | Arithmetic::Divide
-        )
-    });
-    if is_product { PRODUCT } else { SUM }
+    for operation in operations {
+        if let Arithmetic::Add | Arithmetic::Subtract = operation.operator {
+            return SUM;
+        }
+    }
+    PRODUCT
 }
 
 /// How tightly a list of conditions binds.
@@ -120,8 +119,17 @@ fn put_end(text: &mut TextWriter, e: &Expr) {
     match e {
         Expr::Case(_, _, _) => text.put(b" end"),
         Expr::Extract(_, _) | Expr::InList(_, _) => text.put_byte(b')'),
-        Expr::Substring(_, from, count) => push_part(text, *from, *count),
-        Expr::Like(_, pattern) => push_pattern(text, pattern.bytes()),
+        Expr::Substring(_, from, count) => {
+            text.put(b" from ");
+            text.put_number(*from as usize);
+            text.put(b" for ");
+            text.put_number(*count as usize);
+            text.put_byte(b')');
+        }
+        Expr::Like(_, pattern) => {
+            text.put(b" like ");
+            push_quoted(text, pattern.bytes());
+        }
         Expr::IsNull(_) => text.put(b" is null"),
         _ => {}
     }
@@ -193,23 +201,6 @@ fn put_parts(text: &mut TextWriter, row: &Row<'_>, e: &Expr) {
         Expr::All(es) => put_all(text, row, es.as_slice(), b" and ", NOT),
         Expr::Any(es) => put_all(text, row, es.as_slice(), b" or ", AND),
     }
-}
-
-/// Appends the place and the length of a part of a text.
-fn push_part(text: &mut TextWriter, from: u32, count: u32) {
-    text.put_all(&[
-        Piece::Text(b" from "),
-        Piece::Number(from as usize),
-        Piece::Text(b" for "),
-        Piece::Number(count as usize),
-        Piece::Text(b")"),
-    ]);
-}
-
-/// Appends a pattern of LIKE.
-fn push_pattern(text: &mut TextWriter, pattern: &[u8]) {
-    text.put(b" like ");
-    push_quoted(text, pattern);
 }
 
 /// What an empty list of conditions is.

@@ -5,27 +5,22 @@ use crate::writer::{Piece, TextWriter};
 /// The digits of bytes in texts of JSON.
 const DIGITS: &[u8; 16] = b"0123456789abcdef";
 
-/// Appends a byte of a text of JSON. One that is no printable ASCII is escaped by its number:
-/// `\u00e9`.
-fn push_json_byte(text: &mut TextWriter, byte: u8) {
-    match byte {
-        b'"' => text.put(b"\\\""),
-        b'\\' => text.put(b"\\\\"),
-        b'\n' => text.put(b"\\n"),
-        b' '..=b'~' => text.put_byte(byte),
-        other => {
-            text.put(b"\\u00");
-            text.put_byte(DIGITS[(other >> 4) as usize]);
-            text.put_byte(DIGITS[(other & 15) as usize]);
-        }
-    }
-}
-
-/// Appends a text of JSON, between quotes.
+/// Appends a text of JSON, between quotes. A byte that is no printable ASCII is escaped by its
+/// number: `\u00e9`.
 pub fn push_json_text(text: &mut TextWriter, plain: &[u8]) {
     text.put_byte(b'"');
     for byte in plain {
-        push_json_byte(text, *byte);
+        match *byte {
+            b'"' => text.put(b"\\\""),
+            b'\\' => text.put(b"\\\\"),
+            b'\n' => text.put(b"\\n"),
+            b' '..=b'~' => text.put_byte(*byte),
+            other => {
+                text.put(b"\\u00");
+                text.put_byte(DIGITS[(other >> 4) as usize]);
+                text.put_byte(DIGITS[(other & 15) as usize]);
+            }
+        }
     }
     text.put_byte(b'"');
 }

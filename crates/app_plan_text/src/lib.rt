@@ -14,7 +14,6 @@ mod page;
 mod plan;
 mod query;
 mod row_writer;
-mod scans;
 mod tree;
 mod writer;
 

@@ -26,19 +26,12 @@ fn push_date(text: &mut TextWriter, date: CivilDate) {
     text.put_byte(b'\'');
 }
 
-/// The name of a fault, which no script can write.
-fn fault_name(fault: Fault) -> &'static str {
-    match fault {
-        Fault::TooManyRows => "fault TooManyRows",
-        Fault::DivideByZero => "fault DivideByZero",
-        Fault::NumberRange => "fault NumberRange",
-    }
-}
-
-/// Appends a value.
+/// Appends a value. No script can write a fault.
 pub fn push_literal(text: &mut TextWriter, value: &Value) {
     match value {
-        Value::Fault(fault) => text.put(fault_name(*fault).as_bytes()),
+        Value::Fault(Fault::TooManyRows) => text.put(b"fault TooManyRows"),
+        Value::Fault(Fault::DivideByZero) => text.put(b"fault DivideByZero"),
+        Value::Fault(Fault::NumberRange) => text.put(b"fault NumberRange"),
         Value::Number(scale, coefficient) => text.put_decimal(*coefficient, *scale),
         Value::Text(plain) => push_quoted(text, plain.bytes()),
         Value::Date(date) => push_date(text, *date),

@@ -4,54 +4,34 @@ use crate::writer::Piece;
 use base_schema::TableName;
 use std::alloc::Global;
 
-/// How often each table is scanned.
-#[derive(Clone, Copy)]
-pub struct Scans {
-    // By the tables' numbers.
-    counts: [usize; 8],
-}
-
-impl Scans {
-    /// No scan.
-    pub fn none() -> Scans {
-        Scans { counts: [0; 8] }
-    }
-
-    /// Counts a scan of a table, and answers which of its scans this is, from 1.
-    pub fn count(&mut self, table: TableName) -> usize {
-        let next = self.of(table).saturating_add(1);
-        if let Some(count) = self.counts.get_mut(table as usize) {
-            *count = next;
-        }
-        next
-    }
-
-    /// How often a table is scanned.
-    fn of(&self, table: TableName) -> usize {
-        match self.counts.get(table as usize) {
-            Some(count) => *count,
-            None => 0,
-        }
-    }
-}
-
-/// What a tree, a plan or a query has been given numbers and names for.
+/// The numbers and names that were given so far. A query or a tree is put twice: the second time it
+/// is known which tables are scanned more than once.
 #[derive(Clone, Copy)]
 pub struct Numbering {
-    // All scans.
-    scans: Scans,
+    // How often each table is scanned, by the tables' numbers, where that is known.
+    scans: [usize; 8],
     // The scans so far.
-    named: Scans,
+    named: [usize; 8],
     // The number of the next node.
     next: usize,
 }
 
 impl Numbering {
-    /// No number yet, for these scans.
-    pub fn new(scans: Scans, first: usize) -> Numbering {
+    /// No number and no scan yet.
+    pub fn new(first: usize) -> Numbering {
+        Numbering {
+            scans: [0; 8],
+            named: [0; 8],
+            next: first,
+        }
+    }
+
+    /// The same from the start, once all scans were met.
+    pub fn again(self, first: usize) -> Numbering {
+        let scans = self.named;
         Numbering {
             scans,
-            named: Scans::none(),
+            named: [0; 8],
             next: first,
         }
     }
@@ -65,8 +45,13 @@ impl Numbering {
 
     /// Which scan of a table the next one is, where there are others.
     pub fn scan(&mut self, table: TableName) -> Option<usize> {
-        let number = self.named.count(table);
-        if self.scans.of(table) > 1 {
+        let at = table as usize;
+        if at >= 8 {
+            return None;
+        }
+        let number = self.named[at].saturating_add(1);
+        self.named[at] = number;
+        if self.scans[at] > 1 {
             Some(number)
         } else {
             None

@@ -1,17 +1,19 @@
 //! Where a query or a tree is shown.
 use crate::line::PlanLine;
-use crate::names::Names;
-use crate::numbering::{Numbering, Scans};
+use crate::names::{NameList, Names, Row};
+use crate::numbering::Numbering;
 use std::alloc::{AllocError, Global};
 
-/// Where a query or a tree is shown: its numbering, its depth, and the lines so far. What is put
-/// says nothing of memory: where it ran out, `finish` answers so.
+/// Where a query or a tree is shown: its numbering, its depth, the lines so far, and the rows in
+/// sight. What is put says nothing of memory: where it ran out, `finish` answers so.
 pub struct Page {
     /// The numbers given.
     pub numbering: Numbering,
     /// How deep the query or the node stands in others.
     pub depth: usize,
     lines: Vec<PlanLine>,
+    // The names of the rows in sight, the innermost query's last.
+    rows: Vec<Names>,
     // Whether memory ran out.
     is_cut: bool,
 }
@@ -24,9 +26,11 @@ impl Drop for Page {
             numbering: _,
             depth: _,
             lines,
+            rows,
             is_cut: _,
         } = self;
         drop(lines);
+        drop(rows);
     }
 }
 
@@ -42,12 +46,13 @@ fn insert(
 }
 
 impl Page {
-    /// No lines yet, for these scans.
-    pub fn new(alloc: Global, scans: Scans, first: usize) -> Page {
+    /// No lines yet.
+    pub fn new(alloc: Global, numbering: Numbering) -> Page {
         Page {
-            numbering: Numbering::new(scans, first),
+            numbering,
             depth: 0,
             lines: Vec::new(alloc),
+            rows: Vec::new(alloc),
             is_cut: false,
         }
     }
@@ -83,14 +88,32 @@ impl Page {
         }
     }
 
-    /// Names of rows that were made; none where memory ran out.
-    pub fn rows(&mut self, alloc: Global, made: Result<Vec<Names>, AllocError>) -> Vec<Names> {
-        match made {
-            Ok(rows) => rows,
-            Err(_) => {
-                self.is_cut = true;
-                Vec::new(alloc)
-            }
+    /// Puts a row of these names in sight.
+    pub fn enter(&mut self, alloc: Global, row: NameList) {
+        let names = self.names(alloc, row.finish());
+        if self.rows.push(names).is_err() {
+            self.is_cut = true;
+        }
+    }
+
+    /// Puts a row of copies of these names in sight.
+    pub fn enter_copy(&mut self, alloc: Global, names: &[Vec<u8>]) {
+        let mut row = NameList::new(alloc);
+        row.put_all(alloc, names);
+        self.enter(alloc, row);
+    }
+
+    /// Takes the innermost row out of sight.
+    pub fn leave(&mut self) {
+        let _row = self.rows.pop();
+    }
+
+    /// The names of the row this many levels out.
+    pub fn row(&self, level: u32) -> Row<'_> {
+        let behind = (level as usize).saturating_add(1);
+        match self.rows.get(self.rows.len().saturating_sub(behind)) {
+            Some(names) if behind <= self.rows.len() => Row::of(names.as_slice()),
+            _ => Row::of(&[]),
         }
     }
 
@@ -100,6 +123,7 @@ impl Page {
             numbering: _,
             depth: _,
             lines,
+            rows: _rows,
             is_cut,
         } = self;
         if is_cut {

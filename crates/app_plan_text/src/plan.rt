@@ -10,7 +10,7 @@ use crate::node::{
     operation_words, put_groups, put_join, put_kept, put_list, put_mark, put_scan, put_selection,
     put_single,
 };
-use crate::numbering::{Numbering, Scans};
+use crate::numbering::Numbering;
 use crate::row_writer::RowWriter;
 use crate::writer::TextWriter;
 use base_value::Value;
@@ -216,19 +216,26 @@ fn line_of(
     let inputs = inputs_of(alloc, node)?;
     let mut row = RowWriter::new(alloc);
     put_node(alloc, &mut row, numbering, lines, number, node);
-    let line = row.line(alloc, number, 0, kind_word(node).as_bytes(), inputs, rows)?;
+    let line = row.line(
+        alloc,
+        number,
+        0,
+        kind_word(node).as_bytes(),
+        inputs.as_slice(),
+        rows,
+    )?;
     Ok(line)
 }
 
-/// The scans of a plan.
-fn scans_of(nodes: &[Node]) -> Scans {
-    let mut scans = Scans::none();
+/// The numbering of a plan of these nodes.
+fn numbering_of(nodes: &[Node]) -> Numbering {
+    let mut numbering = Numbering::new(0);
     for node in nodes {
         if let Node::Scan(table) = node {
-            let _number = scans.count(*table);
+            let _number = numbering.scan(*table);
         }
     }
-    scans
+    numbering.again(0)
 }
 
 /// The lines of a plan: one for each node, in the plan's order, with its number, its kind and the
@@ -240,7 +247,7 @@ pub fn plan_lines(
 ) -> Result<Vec<PlanLine>, AllocError>
     ensures { IfOk result (λ lines. AreLinesFrom 0 nodes.now lines.items) }
 {
-    let mut numbering = Numbering::new(scans_of(nodes), 0);
+    let mut numbering = numbering_of(nodes);
     let mut lines: Vec<PlanLine> = Vec::new(alloc);
     for (number, node) in nodes.iter().enumerate() {
         let rows = counts.get(number).copied();

@@ -87,14 +87,15 @@ impl RowWriter {
         number: usize,
         depth: usize,
         kind: &[u8],
-        inputs: Vec<usize>,
+        inputs: &[usize],
         rows: Option<usize>,
     ) -> Result<PlanLine, AllocError>
         ensures { IfOk result (λ line. (line.number ≡ number) × (line.kind.items ≡ kind.now)
-            × (line.inputs.items ≡ inputs.items)) }
+            × (line.inputs.items ≡ inputs.now)) }
     {
         let RowWriter { detail, columns } = self;
         let kind = Vec::from_slice(alloc, kind)?;
+        let inputs = Vec::from_slice(alloc, inputs)?;
         let detail = detail.finish()?;
         let columns = columns.finish()?;
         Ok(PlanLine {

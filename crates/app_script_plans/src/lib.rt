@@ -2,6 +2,7 @@
 //! and its flat plan, with what each node takes where there are tables.
 #![tactic(auto)]
 
+mod figures;
 mod lines;
 mod objects;
 mod place;

@@ -5,6 +5,7 @@ ghost use Rattle.app_plan_text.specs.declared.line.PlanLine.{PlanLine};
 ghost use Rattle.plan_spelling.specs.Plans.{EndsWithPlan};
 ghost use Rattle.app_script_plans.specs.Shown.{EndsWithItsPlan};
 
+use crate::figures::put_figures;
 use crate::query_plan::{FormLines, QueryPlan};
 use crate::statement_plan::StatementPlan;
 use app_plan_figures::{NodeFigures, rows_of};
@@ -39,7 +40,7 @@ fn push_head<'x>(
 /// Appends forms, one after the other: of each its title and its lines.
 fn push_forms(text: &mut Vec<u8>, forms: &[FormLines]) -> Result<(), AllocError> {
     for form in forms {
-        text.extend_from_slice(form.form.title().as_bytes())?;
+        text.extend_from_slice(form.title.as_bytes())?;
         text.push(b'\n')?;
         push_lines(text, form.lines.as_slice())?;
     }
@@ -71,27 +72,18 @@ fn push_flat_plan(
     Ok(())
 }
 
-/// Writes what each node of a plan gives, and how it finds its pairs where it is a join.
-fn put_figures(out: &mut TextWriter, figures: &[NodeFigures]) {
-    for (number, node) in figures.iter().enumerate() {
-        out.put_all(&[
-            Piece::Text(b"  "),
-            Piece::Number(number),
-            Piece::Text(b": "),
-            Piece::Number(node.rows),
-            Piece::Text(b" rows, "),
-            Piece::Number(node.bytes),
-            Piece::Text(b" bytes, "),
-            Piece::Number(node.micros as usize),
-            Piece::Text(b" microseconds"),
-        ]);
-        if let Some(way) = node.way {
-            out.put(b", by ");
-            out.put(way.words().as_bytes());
-        }
-        out.put_byte(b'\n');
-    }
-}
+/// The words around what a node gives, in lines.
+const WORDS: [&[u8]; 9] = [
+    b"",
+    b"  ",
+    b": ",
+    b" rows, ",
+    b" bytes, ",
+    b" microseconds",
+    b", by ",
+    b"",
+    b"\n",
+];
 
 /// Appends what each node of a plan gives, where there are tables.
 fn push_figures(
@@ -104,7 +96,7 @@ fn push_figures(
     }
     let mut out = TextWriter::new(alloc);
     out.put(b"figures of the nodes, each with the time from the first one on\n");
-    put_figures(&mut out, figures);
+    put_figures(&mut out, figures, &WORDS);
     out.append_to(text)
 }
 

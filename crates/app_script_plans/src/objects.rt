@@ -1,7 +1,8 @@
 //! What is shown of a statement, as an object of JSON.
+use crate::figures::put_figures;
 use crate::query_plan::{FormLines, QueryPlan};
 use crate::statement_plan::StatementPlan;
-use app_plan_figures::{NodeFigures, rows_of};
+use app_plan_figures::rows_of;
 use app_plan_text::{Piece, TextWriter, plan_lines, push_json_lines, push_json_text};
 use itoa::Buffer;
 use plan_spelling::plan_spelling;
@@ -20,7 +21,7 @@ fn put_forms(out: &mut TextWriter, forms: &[FormLines]) {
         put_comma(out, place);
         out.put_all(&[
             Piece::Text(b"{\"form\":\""),
-            Piece::Text(form.form.title().as_bytes()),
+            Piece::Text(form.title.as_bytes()),
             Piece::Text(b"\",\"lines\":"),
         ]);
         push_json_lines(out, form.lines.as_slice());
@@ -28,28 +29,18 @@ fn put_forms(out: &mut TextWriter, forms: &[FormLines]) {
     }
 }
 
-/// Writes the objects of what each node gives, with commas between them.
-fn put_figures(out: &mut TextWriter, figures: &[NodeFigures]) {
-    for (number, node) in figures.iter().enumerate() {
-        put_comma(out, number);
-        out.put_all(&[
-            Piece::Text(b"{\"node\":"),
-            Piece::Number(number),
-            Piece::Text(b",\"rows\":"),
-            Piece::Number(node.rows),
-            Piece::Text(b",\"bytes\":"),
-            Piece::Number(node.bytes),
-            Piece::Text(b",\"microseconds\":"),
-            Piece::Number(node.micros as usize),
-        ]);
-        if let Some(way) = node.way {
-            out.put(b",\"way\":\"");
-            out.put(way.words().as_bytes());
-            out.put_byte(b'"');
-        }
-        out.put_byte(b'}');
-    }
-}
+/// The words around what a node gives, in its object.
+const WORDS: [&[u8]; 9] = [
+    b",",
+    b"{\"node\":",
+    b",\"rows\":",
+    b",\"bytes\":",
+    b",\"microseconds\":",
+    b"",
+    b",\"way\":\"",
+    b"\"",
+    b"}",
+];
 
 /// Writes numbers of up to 128 bits, with commas between them.
 fn put_numbers(out: &mut TextWriter, numbers: &[u128]) {
@@ -72,7 +63,7 @@ fn put_query(alloc: Global, out: &mut TextWriter, plan: &QueryPlan) -> Result<()
     out.put(b"],\"plan\":");
     push_json_lines(out, lines.as_slice());
     out.put(b",\"figures\":[");
-    put_figures(out, plan.figures.as_slice());
+    put_figures(out, plan.figures.as_slice(), &WORDS);
     out.put(b"],\"spelling\":[");
     put_numbers(out, numbers.as_slice());
     out.put_byte(b']');

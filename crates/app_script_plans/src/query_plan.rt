@@ -17,46 +17,15 @@ use plan_tree_moves::{pruned, sunk};
 use sql_ast::Query;
 use sql_binder_steps::BindFault;
 use sql_bound_query::BoundQuery;
-use sqlite_items::Items;
+use sqlite_items::{Boxed, Items};
 use std::alloc::{AllocError, Global};
 use std::thread::Threads;
 use std::time::Clock;
 
-/// A form of a query before its flat plan.
-#[derive(Clone, Copy)]
-pub enum QueryForm {
-    /// The query with its names bound.
-    Bound,
-    /// Its dependent tree.
-    Tree,
-    /// The tree after its conditions were moved down.
-    Sunk,
-    /// The tree after that, without the columns that nobody reads.
-    Pruned,
-    /// The tree after that, with its joins in another order.
-    Arranged,
-    /// The tree after that, with columns for computed keys: the one that is lowered.
-    Keyed,
-}
-
-impl QueryForm {
-    /// Its title.
-    pub fn title(self) -> &'static str {
-        match self {
-            QueryForm::Bound => "bound query",
-            QueryForm::Tree => "dependent tree",
-            QueryForm::Sunk => "tree with conditions moved down",
-            QueryForm::Pruned => "tree without columns that nobody reads",
-            QueryForm::Arranged => "tree with joins arranged",
-            QueryForm::Keyed => "tree with columns for computed keys",
-        }
-    }
-}
-
-/// A form of a query, as lines.
+/// A form of a query before its flat plan, as lines.
 pub struct FormLines {
-    /// Which form it is.
-    pub form: QueryForm,
+    /// Its title.
+    pub title: &'static str,
     /// Its lines.
     pub lines: Vec<PlanLine>,
 }
@@ -65,7 +34,7 @@ pub struct FormLines {
 impl Drop for FormLines {
     #[inline]
     fn drop(self) {
-        let FormLines { form: _, lines } = self;
+        let FormLines { title: _, lines } = self;
         drop(lines);
     }
 }
@@ -96,91 +65,55 @@ impl Drop for QueryPlan {
     }
 }
 
-/// Appends a form.
+/// Appends a form whose lines were made.
 fn put_form(
     forms: &mut Vec<FormLines>,
-    form: QueryForm,
-    lines: Vec<PlanLine>,
+    title: &'static str,
+    lines: Result<Vec<PlanLine>, AllocError>,
 ) -> Result<(), AllocError> {
-    forms.push(FormLines { form, lines })?;
+    let lines = lines?;
+    forms.push(FormLines { title, lines })?;
     Ok(())
 }
 
-/// Appends a form that is a tree.
+/// Appends a tree that was made, and gives it back.
 fn put_tree(
     alloc: Global,
     forms: &mut Vec<FormLines>,
-    form: QueryForm,
-    tree: &DepTree,
-) -> Result<(), AllocError> {
-    let lines = tree_lines(alloc, tree)?;
-    put_form(forms, form, lines)
+    title: &'static str,
+    made: Result<Boxed<DepTree>, AllocError>,
+) -> Result<Boxed<DepTree>, AllocError> {
+    let tree = made?;
+    put_form(forms, title, tree_lines(alloc, tree.get()))?;
+    Ok(tree)
 }
 
-/// Appends a tree without the columns that nobody reads.
-fn put_pruned(alloc: Global, forms: &mut Vec<FormLines>, tree: &DepTree) -> Result<(), AllocError> {
-    let narrow = pruned(alloc, 0, tree)?;
-    put_tree(alloc, forms, QueryForm::Pruned, narrow.get())
-}
-
-/// Appends a tree after its conditions were moved down, and that one without the columns that
-/// nobody reads.
-fn put_sunk(alloc: Global, forms: &mut Vec<FormLines>, tree: &DepTree) -> Result<(), AllocError> {
-    let lower = sunk(alloc, 0, tree, Items::new(alloc))?;
-    put_tree(alloc, forms, QueryForm::Sunk, lower.get())?;
-    put_pruned(alloc, forms, lower.get())
-}
-
-/// Appends a tree with columns for the values that its equalities compute.
-fn put_keyed(alloc: Global, forms: &mut Vec<FormLines>, tree: &DepTree) -> Result<(), AllocError> {
-    let indexed = keyed(alloc, 0, tree)?;
-    put_tree(alloc, forms, QueryForm::Keyed, indexed.get())
-}
-
-/// Appends a tree after its joins were arranged, and that one with columns for computed values.
-fn put_arranged(
+/// Appends what becomes of a dependent tree. With its conditions moved down it is pruned, and with
+/// its joins arranged it gets columns for the values that its equalities compute.
+fn put_later_trees(
     alloc: Global,
     forms: &mut Vec<FormLines>,
     tree: &DepTree,
 ) -> Result<(), AllocError> {
-    let arranged = arrange(alloc, 0, tree)?;
-    put_tree(alloc, forms, QueryForm::Arranged, arranged.get())?;
-    put_keyed(alloc, forms, arranged.get())
+    let lower = sunk(alloc, 0, tree, Items::new(alloc));
+    let lower = put_tree(alloc, forms, "tree with conditions moved down", lower)?;
+    let narrow = pruned(alloc, 0, lower.get());
+    let _narrow = put_tree(alloc, forms, "tree without columns that nobody reads", narrow)?;
+    let arranged = arrange(alloc, 0, tree);
+    let arranged = put_tree(alloc, forms, "tree with joins arranged", arranged)?;
+    let indexed = keyed(alloc, 0, arranged.get());
+    let _indexed = put_tree(alloc, forms, "tree with columns for computed keys", indexed)?;
+    Ok(())
 }
 
-/// Appends the dependent tree of a bound query, and what becomes of it.
-fn put_trees(
-    alloc: Global,
-    forms: &mut Vec<FormLines>,
-    query: &BoundQuery,
-) -> Result<(), AllocError>
-    requires { (kinds : List Kind) × IsWellTyped query.now.block kinds }
-{
-    let tree = depend(alloc, query)?;
-    put_tree(alloc, forms, QueryForm::Tree, tree.get())?;
-    put_sunk(alloc, forms, tree.get())?;
-    put_arranged(alloc, forms, tree.get())
-}
-
-/// Appends a bound query's forms, by the calls with which its flat plan is made.
-fn put_forms(
-    alloc: Global,
-    forms: &mut Vec<FormLines>,
-    query: &BoundQuery,
-) -> Result<(), AllocError>
-    requires { (kinds : List Kind) × IsWellTyped query.now.block kinds }
-{
-    let lines = query_lines(alloc, query)?;
-    put_form(forms, QueryForm::Bound, lines)?;
-    put_trees(alloc, forms, query)
-}
-
-/// A bound query's forms.
+/// A bound query's forms, by the calls with which its flat plan is made.
 fn bound_forms(alloc: Global, query: &BoundQuery) -> Result<Vec<FormLines>, AllocError>
     requires { (kinds : List Kind) × IsWellTyped query.now.block kinds }
 {
     let mut forms = Vec::new(alloc);
-    put_forms(alloc, &mut forms, query)?;
+    put_form(&mut forms, "bound query", query_lines(alloc, query))?;
+    let tree = put_tree(alloc, &mut forms, "dependent tree", depend(alloc, query))?;
+    put_later_trees(alloc, &mut forms, tree.get())?;
     Ok(forms)
 }
 

@@ -3,7 +3,6 @@ use sql_ast::Statement;
 use sql_lexer::{Kind, LexFault, Token, lex};
 use sql_parser::{ScriptFault, read_script};
 use sql_templates::{TemplateFault, fill};
-use sqlite_items::Items;
 use std::alloc::{AllocError, Global};
 
 /// Where a statement stands in a script.
@@ -60,15 +59,6 @@ fn spans_of(alloc: Global, script: &[u8]) -> Result<Vec<Span>, AllocError> {
     Ok(spans)
 }
 
-/// The statements of a text that is a script; none where it is none.
-fn statements_of(alloc: Global, text: &[u8]) -> Result<Items<Statement>, AllocError> {
-    match read_script(alloc, text) {
-        Ok(statements) => Ok(statements),
-        Err(ScriptFault::Refused(_, _)) => Ok(Items::new(alloc)),
-        Err(ScriptFault::OutOfMemory) => Err(AllocError),
-    }
-}
-
 /// The text that statements stand for, where they are one run, and its template is filled.
 fn run_text(alloc: Global, statements: &[Statement]) -> Result<Option<Vec<u8>>, AllocError> {
     let [Statement::Run(number, values)] = statements else {
@@ -83,8 +73,11 @@ fn run_text(alloc: Global, statements: &[Statement]) -> Result<Option<Vec<u8>>, 
 
 /// The text that a run stands for, where its template is filled.
 fn filled_text(alloc: Global, run: &[u8]) -> Result<Option<Vec<u8>>, AllocError> {
-    let statements = statements_of(alloc, run)?;
-    run_text(alloc, statements.as_slice())
+    match read_script(alloc, run) {
+        Ok(statements) => run_text(alloc, statements.as_slice()),
+        Err(ScriptFault::Refused(_, _)) => Ok(None),
+        Err(ScriptFault::OutOfMemory) => Err(AllocError),
+    }
 }
 
 /// Appends a text.

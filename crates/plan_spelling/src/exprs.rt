@@ -27,31 +27,52 @@ fn put_kind_of(
     numbers.extend_from_slice(&[2, kind, more, parts])
 }
 
-/// Appends what an expression over a text is, with that text.
-fn put_kind_over(numbers: &mut Vec<u128>, kind: u128, text: &[u8]) -> Result<(), AllocError>
-    ensures { OnOk result (numbers.new.items
-        ≡ numbers.old.items ++ (length text.now + 1) ∷ kind ∷ (text.now ++ 1 ∷ [])) }
-{
-    numbers.extend_from_slice(&[text.len() as u128 + 1, kind])?;
-    put_bytes(numbers, text)?;
-    numbers.extend_from_slice(&[1])
-}
-
-/// Appends what a part of a text is: its place and its length.
-fn put_substring(numbers: &mut Vec<u128>, from: u32, count: u32) -> Result<(), AllocError>
-    ensures { OnOk result (numbers.new.items
-        ≡ numbers.old.items ++ 3 ∷ 6 ∷ from ∷ count ∷ 1 ∷ []) }
-{
-    numbers.extend_from_slice(&[3, 6, from as u128, count as u128, 1])
-}
-
-/// Appends the numbers that spell an expression of one part.
+/// Appends what an expression is that has a first part and others, or that part alone; and the
+/// numbers that spell the first part.
 #[cycle(spelling)]
-fn put_one(numbers: &mut Vec<u128>, kind: u128, e: &Expr) -> Result<(), AllocError>
+fn put_first(numbers: &mut Vec<u128>, kind: u128, parts: u128, e: &Expr) -> Result<(), AllocError>
     ensures { OnOk result (numbers.new.items
-        ≡ numbers.old.items ++ 1 ∷ kind ∷ 1 ∷ expr_spelling e.now) }
+        ≡ numbers.old.items ++ 1 ∷ kind ∷ parts ∷ expr_spelling e.now) }
 {
-    put_kind(numbers, kind, 1)?;
+    put_kind(numbers, kind, parts)?;
+    put_expr(numbers, e)
+}
+
+/// Appends the same of an expression that has one number more.
+#[cycle(spelling)]
+fn put_first_of(
+    numbers: &mut Vec<u128>,
+    kind: u128,
+    more: u128,
+    parts: u128,
+    e: &Expr,
+) -> Result<(), AllocError>
+    ensures { OnOk result (numbers.new.items
+        ≡ numbers.old.items ++ 2 ∷ kind ∷ more ∷ parts ∷ expr_spelling e.now) }
+{
+    put_kind_of(numbers, kind, more, parts)?;
+    put_expr(numbers, e)
+}
+
+/// Appends what spells LIKE: its pattern, and the text.
+#[cycle(spelling)]
+fn put_like(numbers: &mut Vec<u128>, pattern: &[u8], e: &Expr) -> Result<(), AllocError>
+    ensures { OnOk result (numbers.new.items ≡ numbers.old.items
+        ++ (length pattern.now + 1) ∷ 9 ∷ (pattern.now ++ 1 ∷ expr_spelling e.now)) }
+{
+    numbers.extend_from_slice(&[pattern.len() as u128 + 1, 9])?;
+    put_bytes(numbers, pattern)?;
+    numbers.push(1)?;
+    put_expr(numbers, e)
+}
+
+/// Appends what spells a part of a text: its place and its length, and the text.
+#[cycle(spelling)]
+fn put_substring(numbers: &mut Vec<u128>, from: u32, count: u32, e: &Expr) -> Result<(), AllocError>
+    ensures { OnOk result (numbers.new.items
+        ≡ numbers.old.items ++ 3 ∷ 6 ∷ from ∷ count ∷ 1 ∷ expr_spelling e.now) }
+{
+    numbers.extend_from_slice(&[3, 6, from as u128, count as u128, 1])?;
     put_expr(numbers, e)
 }
 
@@ -74,55 +95,37 @@ pub fn put_expr(numbers: &mut Vec<u128>, e: &Expr) -> Result<(), AllocError>
     match e {
         Expr::Column(place) => put_kind_of(numbers, 0, *place as u128, 0),
         Expr::Literal(value) => put_value(numbers, 1, value),
-        Expr::Negative(e) => put_one(numbers, 2, e.get()),
+        Expr::Negative(e) => put_first(numbers, 2, 1, e.get()),
         Expr::Arithmetic(first, operations) => {
-            put_kind(numbers, 3, operations.len() as u128 + 1)?;
-            put_expr(numbers, first.get())?;
+            put_first(numbers, 3, operations.len() as u128 + 1, first.get())?;
             put_operations(numbers, operations.as_slice())
         }
         Expr::Case(scale, branches, other) => {
-            put_kind_of(
-                numbers,
-                4,
-                scale.places() as u128,
-                branches.len() as u128 + 1,
-            )?;
-            put_expr(numbers, other.get())?;
+            let (scale, parts) = (scale.places() as u128, branches.len() as u128 + 1);
+            put_first_of(numbers, 4, scale, parts, other.get())?;
             put_branches(numbers, branches.as_slice())
         }
-        Expr::Extract(part, e) => {
-            put_kind_of(numbers, 5, part_number(*part), 1)?;
-            put_expr(numbers, e.get())
-        }
-        Expr::Substring(e, from, count) => {
-            put_substring(numbers, *from, *count)?;
-            put_expr(numbers, e.get())
-        }
+        Expr::Extract(part, e) => put_first_of(numbers, 5, part_number(*part), 1, e.get()),
+        Expr::Substring(e, from, count) => put_substring(numbers, *from, *count, e.get()),
         Expr::Compare(comparison, a, b) => {
-            put_kind_of(numbers, 7, comparison_number(*comparison), 2)?;
-            put_expr(numbers, a.get())?;
+            put_first_of(numbers, 7, comparison_number(*comparison), 2, a.get())?;
             put_expr(numbers, b.get())
         }
         Expr::Between(e, low, high) => {
-            put_kind(numbers, 8, 3)?;
-            put_expr(numbers, e.get())?;
+            put_first(numbers, 8, 3, e.get())?;
             put_expr(numbers, low.get())?;
             put_expr(numbers, high.get())
         }
-        Expr::Like(e, pattern) => {
-            put_kind_over(numbers, 9, pattern.bytes())?;
-            put_expr(numbers, e.get())
-        }
+        Expr::Like(e, pattern) => put_like(numbers, pattern.bytes(), e.get()),
         Expr::InList(e, es) => {
-            put_kind(numbers, 10, es.len() as u128 + 1)?;
-            put_expr(numbers, e.get())?;
+            put_first(numbers, 10, es.len() as u128 + 1, e.get())?;
             put_exprs(numbers, es.as_slice())
         }
-        Expr::IsNull(e) => put_one(numbers, 11, e.get()),
-        Expr::Not(e) => put_one(numbers, 12, e.get()),
+        Expr::IsNull(e) => put_first(numbers, 11, 1, e.get()),
+        Expr::Not(e) => put_first(numbers, 12, 1, e.get()),
         Expr::All(es) => put_list(numbers, 13, es.as_slice()),
         Expr::Any(es) => put_list(numbers, 14, es.as_slice()),
-        Expr::IsMarked(e) => put_one(numbers, 15, e.get()),
+        Expr::IsMarked(e) => put_first(numbers, 15, 1, e.get()),
     }
 }
 

@@ -4,8 +4,8 @@ use Rattle.std.specs.Io.KnownBytes.{Appends}
 use Rattle.base_io.specs.Outside.{Folder}
 use Rattle.app_inputs.specs.Printing.{IsAnswer}
 use Rattle.app_inputs.specs.declared.status.Status.{Status}
-use Rattle.show_plan.specs.Asked.{Asked}
-use Rattle.show_plan.specs.Printed.{Prints}
+use Rattle.app_show_plan.specs.Asked.{Asked}
+use Rattle.app_show_plan.specs.Printed.{Prints}
 
 -- an answer means that the whole text of what was asked is written, with its status
 pub answered : (asks : Option Asked) (a : Asked) (held : Option Folder) (text written : List ℕ) (s result : Status)

@@ -1,7 +1,7 @@
 //! The words of the command line.
 ghost use Rattle.std.specs.Prelude.{◌≡◌, map, option_map};
 ghost use Rattle.std.specs.String.{string_bytes};
-ghost use Rattle.show_plan.specs.Asked.{asked, asked_for, asked_in, asked_view};
+ghost use Rattle.app_show_plan.specs.Asked.{asked, asked_for, asked_in, asked_view};
 
 use app_script_plans::PlanForm;
 

@@ -1,8 +1,8 @@
 use Rattle.std.proofs.Common.{◌≡◌, Some, map, rules}
 use Rattle.std.specs.String.{string_bytes}
-use Rattle.show_plan.specs.Asked.{asked, asked_view}
-use Rattle.show_plan.proofs.Printing.{answered}
-use Rattle.show_plan.proofs.run.show_plan.Goals as goal
+use Rattle.app_show_plan.specs.Asked.{asked, asked_view}
+use Rattle.app_show_plan.proofs.Printing.{answered}
+use Rattle.app_show_plan.proofs.run.show_plan.Goals as goal
 
 pub returns-in-Ok-clause-answer : goal.returns-in-Ok-clause-answer
 returns-in-Ok-clause-answer g c =

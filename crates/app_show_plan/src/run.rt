@@ -8,8 +8,8 @@ ghost use Rattle.app_inputs.specs.FilesAfter.{FilesAfterInput, FilesAfterRead};
 ghost use Rattle.app_inputs.specs.Printing.{IsAnswer};
 ghost use Rattle.app_inputs.specs.Views.{Reads};
 ghost use Rattle.app_script_plans.specs.Shown.{ShowsScript};
-ghost use Rattle.show_plan.specs.Asked.{asked, asked_view};
-ghost use Rattle.show_plan.specs.Printed.{IsTextOf, MeansShown, Prints, PrintsRefusal, tables_in};
+ghost use Rattle.app_show_plan.specs.Asked.{asked, asked_view};
+ghost use Rattle.app_show_plan.specs.Printed.{IsTextOf, MeansShown, Prints, PrintsRefusal, tables_in};
 
 use crate::words::{Request, read_words};
 use app_inputs::{

@@ -19,7 +19,7 @@ use Rattle.app_inputs.specs.declared.status.Status.{Status}
 use Rattle.app_inputs.specs.declared.status.Status.TheVariants as status
 use Rattle.app_script_plans.specs.Shown.{ShowsScript}
 use Rattle.app_script_plans.specs.declared.script.PlanForm.{PlanForm}
-use Rattle.show_plan.specs.Asked.{Asked}
+use Rattle.app_show_plan.specs.Asked.{Asked}
 
 -- the line for words of another form
 abbrev pub usage_line : List ℕ
