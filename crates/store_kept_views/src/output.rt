@@ -64,7 +64,12 @@ fn shown(aggregate: &KeptAggregate, rows: u64, cell: &Cell) -> Value
 }
 
 /// The value of an aggregate of a group, null where it is not there.
-pub(crate) fn shown_at(aggregates: &[KeptAggregate], rows: u64, cells: &[Cell], place: usize) -> Value
+pub(crate) fn shown_at(
+    aggregates: &[KeptAggregate],
+    rows: u64,
+    cells: &[Cell],
+    place: usize,
+) -> Value
     ensures { result
         ≡ slice_index_or (all_shown aggregates.now rows (map cell_in cells.now)) place Null }
 {
