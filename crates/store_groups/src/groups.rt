@@ -21,7 +21,7 @@ use std::hash::Hash;
 use std::marker::Model;
 
 /// How many groups a page has on average at most.
-const PAGE_GROUPS: usize = 8;
+const PAGE_GROUPS: usize = 32;
 
 /// Groups, each of another key, seen as the list of the keys with their groups. They lie in pages
 /// by the hashes of their keys. A share of the table shares its pages.

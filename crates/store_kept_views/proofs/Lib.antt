@@ -7,3 +7,4 @@ pub mod ReadingLists
 pub mod ViewLists
 pub mod PartLists
 pub mod RefreshMoves
+pub mod ShownColumns

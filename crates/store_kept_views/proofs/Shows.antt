@@ -57,14 +57,14 @@ cells_past (x ∷ ags) n (y ∷ cs) zero le = absurd (omega arith)
 cells_past (x ∷ ags) n (y ∷ cs) (suc i) le = cells_past ags n cs i (omega arith)
 
 -- the rows of one more page
-pub rows_more : (f : List Value × Group → Ranked Value) (first old new : List (Ranked Value)) (ps : List Entries) (i : ℕ) (es : Entries) → i < length ps → es ≡ get_or ps i es
+pub rows_more : {X : Type 0} (f : List Value × Group → X) (first old new : List X) (ps : List Entries) (i : ℕ) (es : Entries) → i < length ps → es ≡ get_or ps i es
     → old ≡ first ++ map f (entries_of (take i ps)) → new ≡ old ++ map f es → new ≡ first ++ map f (entries_of (take (i + 1) ps))
 rows_more f first old new ps i es less is before more =
     more ∙ ap (λ l. l ++ map f es) before ∙ append_assoc first (map f (entries_of (take i ps))) (map f es)
     ∙ ap (λ l. first ++ l) (sym (map-append f (entries_of (take i ps)) es) ∙ ap (map f) (sym (entries_more ps i es less is)))
 
 -- the row of one more entry
-row_suc : (f : List Value × Group → Ranked Value) (es : Entries) (i : ℕ) (k : List Value) (g : Group) → option_map (λ (e : List Value × Group). e.0) (slice_get es i) ≡ Some k
+row_suc : {X : Type 0} (f : List Value × Group → X) (es : Entries) (i : ℕ) (k : List Value) (g : Group) → option_map (λ (e : List Value × Group). e.0) (slice_get es i) ≡ Some k
     → option_map (λ (e : List Value × Group). e.1) (slice_get es i) ≡ Some g → map f (take (suc i) es) ≡ map f (take i es) ++ f (k, g) ∷ []
 row_suc f [] i k g one two = cc
 row_suc f (e ∷ es) zero k g one two = let a : e.0 ≡ k = cc in let b : e.1 ≡ g = cc in ap (λ (x : List Value × Group). f x ∷ []) (pair_is e k g a b)
@@ -73,7 +73,7 @@ row_suc f (e ∷ es) zero k g one two = let a : e.0 ≡ k = cc in let b : e.1 �
     pair_is e k g a b = ap (λ x. (x, e.1)) a ∙ ap (λ y. (k, y)) b
 row_suc f (e ∷ es) (suc i) k g one two = ap (λ l. f e ∷ l) (row_suc f es i k g one two)
 
-pub row_more : (f : List Value × Group → Ranked Value) (first old new : List (Ranked Value)) (es : Entries) (i : ℕ) (k : List Value) (g : Group)
+pub row_more : {X : Type 0} (f : List Value × Group → X) (first old new : List X) (es : Entries) (i : ℕ) (k : List Value) (g : Group)
     → option_map (λ (e : List Value × Group). e.0) (slice_get es i) ≡ Some k → option_map (λ (e : List Value × Group). e.1) (slice_get es i) ≡ Some g
     → old ≡ first ++ map f (take i es) → new ≡ old ++ f (k, g) ∷ [] → new ≡ first ++ map f (take (i + 1) es)
 row_more f first old new es i k g one two before more =

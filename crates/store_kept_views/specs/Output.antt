@@ -1,5 +1,5 @@
 -- The rows that groups show.
-use Rattle.std.specs.Prelude.{ℕ, List, [], ◌∷◌, map, length}
+use Rattle.std.specs.Prelude.{ℕ, List, [], ◌∷◌, map, length, slice_index_or}
 use Rattle.base_row_laws.specs.Ranked.{Ranked, ranked}
 use Rattle.base_row_laws.specs.Rows.{columns}
 use Rattle.base_value.specs.declared.value.Value.{Value}
@@ -20,3 +20,11 @@ output_by p by es = map (λ e. output_row p e.0 e.1) es
 
 abbrev pub output_rows : KeptPlan → Entries → List (Ranked Value)
 output_rows p es = output_by p p.by es
+
+-- the value at a place of the row of an entry
+abbrev pub value_in : KeptPlan → ℕ → List Value × Group → Value
+value_in p place e = slice_index_or (row_of p.aggregates e.0 e.1).values place Null
+
+-- the columns at these places of the rows of entries
+abbrev pub shown_columns : KeptPlan → List ℕ → Entries → List (List Value)
+shown_columns p places es = map (λ place. map (value_in p place) es) places

@@ -5,8 +5,8 @@ use base_columns::{Bag, BatchBuilder, ColumnForm};
 use base_value::Value;
 use std::alloc::{AllocError, Global};
 
-// What a column whose first value is this one is expected to hold.
-fn form_of(value: &Value) -> ColumnForm {
+/// What a column whose first value is this one is expected to hold.
+pub(crate) fn form_of(value: &Value) -> ColumnForm {
     match value {
         Value::Number(scale, _) => ColumnForm::Numbers(*scale),
         Value::Text(_) => ColumnForm::Texts,

@@ -4,6 +4,7 @@
 
 mod attached;
 mod bag;
+mod columns;
 mod kept;
 pub mod laws;
 mod moving;

@@ -15,7 +15,8 @@ ghost use Rattle.store_groups.specs.Stored.{cell_in};
 ghost use Rattle.store_kept_views.specs.Output.{output_row, output_rows};
 
 use crate::bag::{bag_of, builder_like};
-use base_columns::{Bag, BatchBuilder};
+use crate::columns::page_batch;
+use base_columns::Bag;
 use base_decimal::{NumberFault, Scale};
 use base_value::{Fault, Standing, Value};
 use plan_algebra::{KeptAggregate, KeptPlan};
@@ -62,8 +63,13 @@ fn shown(aggregate: &KeptAggregate, rows: u64, cell: &Cell) -> Value
     }
 }
 
-// The value of an aggregate of a group, null where it is not there.
-fn shown_at(aggregates: &[KeptAggregate], rows: u64, cells: &[Cell], place: usize) -> Value
+/// The value of an aggregate of a group, null where it is not there.
+pub(crate) fn shown_at(
+    aggregates: &[KeptAggregate],
+    rows: u64,
+    cells: &[Cell],
+    place: usize,
+) -> Value
     ensures { result
         ≡ slice_index_or (all_shown aggregates.now rows (map cell_in cells.now)) place Null }
 {
@@ -76,8 +82,8 @@ fn shown_at(aggregates: &[KeptAggregate], rows: u64, cells: &[Cell], place: usiz
     shown(&aggregates[place], rows, &cells[place])
 }
 
-// A value of a group's row, of its key or of an aggregate, null where it is not there.
-fn value_at(
+/// A value of a group's row, of its key or of an aggregate, null where it is not there.
+pub(crate) fn value_at(
     aggregates: &[KeptAggregate],
     key: &[Value],
     group: &GroupRef<'_>,
@@ -113,63 +119,6 @@ fn put_values(
     Ok(())
 }
 
-// Puts a group's row after others, through values that serve for one row after the other.
-fn put_row(
-    alloc: Global,
-    plan: &KeptPlan,
-    key: &[Value],
-    group: &GroupRef<'_>,
-    values: &mut Vec<Value>,
-    builder: &mut BatchBuilder,
-) -> Result<(), AllocError>
-    requires { builder.old.width ≡ length plan.now.list }
-    ensures width { builder.new.width ≡ builder.old.width }
-    ensures row { OnOk result (builder.new.rows
-        ≡ builder.old.rows ++ output_row plan.now key.now group.now ∷ []) }
-{
-    put_values(plan, key, group, values)?;
-    builder.push_row(alloc, values.as_slice(), group.standing())?;
-    Ok(())
-}
-
-// Puts the rows of the entries of a page after others.
-fn put_rows(
-    alloc: Global,
-    plan: &KeptPlan,
-    page: &Page,
-    values: &mut Vec<Value>,
-    builder: &mut BatchBuilder,
-) -> Result<(), AllocError>
-    requires { builder.old.width ≡ length plan.now.list }
-    ensures width { builder.new.width ≡ builder.old.width }
-    ensures rows { OnOk result (builder.new.rows ≡ builder.old.rows
-        ++ map (λ e. output_row plan.now e.0 e.1) page.now) }
-{
-    for i in 0..page.len() {
-        put_row(alloc, plan, page.key(i), &page.group(i), values, builder)?;
-    }
-    Ok(())
-}
-
-// Puts the rows of the entries of pages after others.
-fn put_pages(
-    alloc: Global,
-    plan: &KeptPlan,
-    pages: &[Page],
-    values: &mut Vec<Value>,
-    builder: &mut BatchBuilder,
-) -> Result<(), AllocError>
-    requires { builder.old.width ≡ length plan.now.list }
-    ensures width { builder.new.width ≡ builder.old.width }
-    ensures rows { OnOk result (builder.new.rows ≡ builder.old.rows
-        ++ map (λ e. output_row plan.now e.0 e.1) (entries_of pages.now)) }
-{
-    for page in pages {
-        put_rows(alloc, plan, page, values, builder)?;
-    }
-    Ok(())
-}
-
 // The first page that has an entry, if there is one.
 fn first_page(pages: &[Page]) -> Option<&Page>
     ensures { MatchOption result (entries_of pages.now ≡ [])
@@ -195,11 +144,9 @@ fn page_rows(
         ≡ map (λ e. output_row plan.now e.0 e.1) (entries_of pages.now)) }
     ensures width { IfOk result (λ bag. bag.width ≡ length plan.now.list) }
 {
-    let mut values = Vec::with_capacity(alloc, plan.list.len())?;
-    put_values(plan, first.key(0), &first.group(0), &mut values)?;
-    let mut builder = builder_like(alloc, values.as_slice())?;
-    put_pages(alloc, plan, pages, &mut values, &mut builder)?;
-    let bag = bag_of(alloc, &builder)?;
+    let batch = page_batch(alloc, plan, first, pages)?;
+    let mut bag = Bag::new(alloc, plan.list.len());
+    bag.push(batch)?;
     Ok(bag)
 }
 
