@@ -1,6 +1,7 @@
-use Rattle.std.proofs.Common.{◌≡◌, ◌++◌, drop}
+use Rattle.std.proofs.Common.{◌≡◌, ◌≤◌, ◌-◌, ◌++◌, drop, take}
 use Rattle.app_result_text.specs.Answer.{escaped}
 use Rattle.app_result_text.proofs.escaped.push_escaped.Given as goal
 
-abbrev pub invariant-loop-byte : goal.invariant-loop-byte
-invariant-loop-byte l = l.text.items ++ escaped (drop l.byte-index l.plain) ≡ l.fn.text.items ++ escaped l.plain
+abbrev pub invariant-loop-i : goal.invariant-loop-i
+invariant-loop-i l = (l.start ≤ l.i)
+    × (l.text.items ++ take (l.i - l.start) (drop l.start l.plain) ++ escaped (drop l.i l.plain) ≡ l.fn.text.items ++ escaped l.plain)
