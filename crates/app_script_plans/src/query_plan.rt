@@ -98,7 +98,12 @@ fn put_later_trees(
     let lower = sunk(alloc, 0, tree, Items::new(alloc));
     let lower = put_tree(alloc, forms, "tree with conditions moved down", lower)?;
     let narrow = pruned(alloc, 0, lower.get());
-    let _narrow = put_tree(alloc, forms, "tree without columns that nobody reads", narrow)?;
+    let _narrow = put_tree(
+        alloc,
+        forms,
+        "tree without columns that nobody reads",
+        narrow,
+    )?;
     let arranged = arrange(alloc, 0, tree);
     let arranged = put_tree(alloc, forms, "tree with joins arranged", arranged)?;
     let indexed = keyed(alloc, 0, arranged.get());
