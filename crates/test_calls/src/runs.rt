@@ -81,9 +81,9 @@ fn put_files<R: Abort>(rt: &R, alloc: Global, files: &mut Vec<MemFile>, given: G
 /// files with one name the first one counts.
 pub(crate) fn files_of<R: Abort>(rt: &R, alloc: Global, own: Given, set: Given) -> Vec<MemFile> {
     let mut files = Vec::new(alloc);
-    for given in [own, set, EMPTY_TABLES] {
-        put_files(rt, alloc, &mut files, given);
-    }
+    put_files(rt, alloc, &mut files, own);
+    put_files(rt, alloc, &mut files, set);
+    put_files(rt, alloc, &mut files, EMPTY_TABLES);
     files
 }
 
