@@ -1,10 +1,9 @@
 //! A row: a shared slice of values, seen as the list of its values.
 ghost use Rattle.std.specs.Prelude.{◌≡◌, ◌↔◌, ◌++◌, IsTrue, IfOk, OnOk, OnErr};
-ghost use Rattle.base_value.specs.Value.{same_row, row_cmp};
+ghost use Rattle.base_value.specs.Value.{same_row};
 
 use crate::value::Value;
 use std::alloc::{AllocError, Global};
-use std::cmp::Ordering;
 use std::hash::{Hash, Hasher};
 use std::marker::Model;
 use std::sync::ArcSlice;
@@ -66,13 +65,6 @@ pub(crate) fn put_clones(to: &mut Vec<Value>, more: &[Value]) -> Result<(), Allo
     ensures err { OnErr result (to.new.items ≡ to.old.items) }
 {
     to.extend_from_slice(more)
-}
-
-/// The order of two rows by all their columns, from left to right, each as [`Value::order`] has it.
-pub fn compare_rows(left: &[Value], right: &[Value]) -> Ordering
-    ensures { result ≡ row_cmp left.now right.now }
-{
-    left.cmp(&right)
 }
 
 impl Clone for Row {

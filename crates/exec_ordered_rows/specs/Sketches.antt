@@ -18,6 +18,7 @@ use Rattle.exec_ordered_rows.specs.Places.{IsThere, placed_row}
 abbrev pub lowest : ℤ
 lowest = negsuc 9223372036854775807
 
+-- a null's too, which comes after all values
 abbrev pub highest : ℤ
 highest = pos 9223372036854775807
 

@@ -1,5 +1,5 @@
 //! The answer of a bag: its rows in order, or its least fault.
-ghost use Rattle.std.specs.Prelude.{◌≡◌, ◌<◌, ◌^◌, ◌++◌, length, map, IfOk};
+ghost use Rattle.std.specs.Prelude.{◌≡◌, ◌<◌, ◌++◌, length, map, IfOk};
 ghost use Rattle.std.specs.Prelude.{MatchResult, Ok, Err};
 ghost use Rattle.base_value.specs.declared.value.Value.TheVariants.{Fault as Failed};
 ghost use Rattle.base_columns.specs.Bags.{bag_rows};

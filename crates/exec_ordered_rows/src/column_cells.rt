@@ -1,5 +1,5 @@
 //! The values of a column, read one by one without copies.
-ghost use Rattle.std.specs.Prelude.{◌≡◌, ◌<◌, IfOk, IsTrue, false, length, slice_index_or, map};
+ghost use Rattle.std.specs.Prelude.{◌≡◌, ◌<◌, IfOk, IsTrue, false, slice_index_or, map};
 ghost use Rattle.base_value.specs.declared.value.Value.TheVariants.{Date as DateOf, Null, Number};
 ghost use Rattle.base_null_marks.specs.Marks.{marked};
 ghost use Rattle.exec_ordered_rows.specs.Cells.{AreTexts, HaveNoFault, cell_value};
