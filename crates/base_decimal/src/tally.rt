@@ -1,6 +1,6 @@
 //! Sums and averages of many coefficients of one scale.
 ghost use Rattle.std.specs.Prelude.{◌≡◌, ℕ, ◌+◌, ◌*◌, ◌^◌, ◌<◌, ◌≤◌, ℤ, pos};
-ghost use Rattle.base_decimal.specs.Tally.{no_terms, with_term, joined, total_of, average_of};
+ghost use Rattle.base_decimal.specs.Tally.{no_terms, sums, with_term, joined, total_of, average_of};
 ghost use Rattle.base_decimal.specs.Tally.{average_scale, small_sum};
 ghost use Rattle.base_decimal.specs.Tally.{HasTerm, IsInRange, without_term};
 
@@ -40,6 +40,19 @@ impl Tally {
             terms: 0,
             above: Wide::zero(),
             below: Wide::zero(),
+        }
+    }
+
+    /// The tally of so many terms, which have these two sums.
+    pub fn of(terms: u64, above: u64, below: u64) -> Tally
+        requires above { above ≤ terms * 2 ^ 127 }
+        requires below { below ≤ terms * 2 ^ 127 }
+        ensures { result ≡ sums terms above below }
+    {
+        Tally {
+            terms,
+            above: Wide::of(above),
+            below: Wide::of(below),
         }
     }
 
