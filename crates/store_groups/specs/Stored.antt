@@ -1,7 +1,8 @@
 -- What a stored cell is seen as.
-use Rattle.base_value.specs.Truth.{standing_rank}
 use Rattle.store_groups.specs.declared.cell.Cell.{Cell as Stored}
-use Rattle.store_groups.specs.Groups.{Cell, cell}
+use Rattle.store_groups.specs.declared.cell.Cell.TheVariants.{Small, Large}
+use Rattle.store_groups.specs.Groups.{Cell}
 
 abbrev pub cell_in : Stored → Cell
-cell_in c = cell (standing_rank c.least) c.tally
+cell_in (Small c) = c
+cell_in (Large c) = c

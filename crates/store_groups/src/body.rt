@@ -151,7 +151,7 @@ impl Body {
         ) ∷ []) }
     {
         let mut group = Group::none(alloc, arguments.len())?;
-        group.put(arguments, standing)?;
+        group.put(alloc, arguments, standing)?;
         let key = Key::new(alloc, hash, key)?;
         let body = self.with(alloc, key, &group.seen())?;
         Ok(body)
@@ -176,7 +176,7 @@ impl Body {
         ensures err { OnErr result (keys_of self.new ≡ keys_of self.old) }
     {
         if let Some(i) = place_of(self.keys.as_slice(), hash, key) {
-            self.groups.put_row(i, arguments, standing)?;
+            self.groups.put_row(alloc, i, arguments, standing)?;
             return Ok(());
         }
         *self = self.with_key(alloc, hash, key, arguments, standing)?;

@@ -1,5 +1,5 @@
 //! A cell for each aggregate, with the values of a row put in or taken out.
-ghost use Rattle.std.specs.Prelude.{◌≡◌, IfOk, OnOk, length, map, replicate};
+ghost use Rattle.std.specs.Prelude.{◌≡◌, ◌++◌, IfOk, OnOk, length, map, replicate};
 ghost use Rattle.base_row_laws.specs.Ranked.{true_rank};
 ghost use Rattle.base_decimal.specs.Tally.{no_terms};
 ghost use Rattle.store_groups.specs.Groups.{HaveValues, are_plain, cell, with_values};
@@ -11,7 +11,11 @@ use base_value::Value;
 use std::alloc::{AllocError, Global};
 
 /// Puts the values of a row into their cells.
-pub(crate) fn put_values(cells: &mut [Cell], values: &[Value]) -> Result<(), AllocError>
+pub(crate) fn put_values(
+    alloc: Global,
+    cells: &mut [Cell],
+    values: &[Value],
+) -> Result<(), AllocError>
     requires { length values.now ≡ length cells.old }
     ensures { OnOk result (map cell_in cells.new
         ≡ with_values (map cell_in cells.old) values.now) }
@@ -19,8 +23,8 @@ pub(crate) fn put_values(cells: &mut [Cell], values: &[Value]) -> Result<(), All
     if cells.len() == 0 {
         return Ok(());
     }
-    cells[0].put(&values[0])?;
-    put_values(&mut cells[1..], &values[1..])?;
+    cells[0].put(alloc, &values[0])?;
+    put_values(alloc, &mut cells[1..], &values[1..])?;
     Ok(())
 }
 
@@ -47,6 +51,25 @@ pub(crate) fn are_plain(cells: &[Cell]) -> bool
         }
     }
     true
+}
+
+/// Puts copies of cells after others.
+pub(crate) fn put_copies(cells: &[Cell], all: &mut Vec<Cell>) -> Result<(), AllocError>
+    ensures { OnOk result (all.new.items ≡ all.old.items ++ cells.now) }
+{
+    for cell in cells {
+        all.push(cell.clone()?)?;
+    }
+    Ok(())
+}
+
+/// Copies of cells.
+pub(crate) fn copies(alloc: Global, cells: &[Cell]) -> Result<Vec<Cell>, AllocError>
+    ensures { IfOk result (λ cs. cs.items ≡ cells.now) }
+{
+    let mut all = Vec::with_capacity(alloc, cells.len())?;
+    put_copies(cells, &mut all)?;
+    Ok(all)
 }
 
 /// So many cells of no values.

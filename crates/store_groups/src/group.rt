@@ -5,7 +5,7 @@ ghost use Rattle.store_groups.specs.Groups.{group, is_faultless, no_rows, with_r
 ghost use Rattle.store_groups.specs.Stored.{cell_in};
 
 use crate::cell::Cell;
-use crate::cells::{are_plain, no_cells, put_values};
+use crate::cells::{are_plain, copies, no_cells, put_values};
 use crate::head::Head;
 use base_value::{Standing, Value};
 use std::alloc::{AllocError, Global};
@@ -75,14 +75,19 @@ impl Group {
 
     /// Puts a row in, of these arguments. More rows than are counted are an error, as memory that
     /// isn't there.
-    pub(crate) fn put(&mut self, arguments: &[Value], standing: Standing) -> Result<(), AllocError>
+    pub(crate) fn put(
+        &mut self,
+        alloc: Global,
+        arguments: &[Value],
+        standing: Standing,
+    ) -> Result<(), AllocError>
         requires { length arguments.now ≡ length self.old.cells }
         ensures { OnOk result
             (self.new ≡ with_row self.old arguments.now (standing_rank standing)) }
     {
         self.rows = self.rows.checked_add(1).ok_or(AllocError)?;
         self.least = self.least.lesser(standing);
-        put_values(self.cells.as_mut_slice(), arguments)?;
+        put_values(alloc, self.cells.as_mut_slice(), arguments)?;
         Ok(())
     }
 }
@@ -99,7 +104,7 @@ impl<'a> GroupRef<'a> {
     pub(crate) fn copy(&self, alloc: Global) -> Result<Group, AllocError>
         ensures { IfOk result (λ g. g ≡ self.now) }
     {
-        let cells = Vec::from_slice(alloc, self.cells)?;
+        let cells = copies(alloc, self.cells)?;
         Ok(Group {
             rows: self.rows,
             least: self.least,

@@ -10,12 +10,17 @@ mod group;
 mod groups;
 mod head;
 mod key;
+mod large_cell;
 pub mod laws;
 mod page;
 mod shelf;
+mod small_cell;
+mod value;
 
 pub use cell::Cell;
 pub use entry::Taken;
 pub use group::{Group, GroupRef};
 pub use groups::Groups;
+pub use large_cell::LargeCell;
 pub use page::Page;
+pub use small_cell::SmallCell;

@@ -6,7 +6,7 @@ ghost use Rattle.store_groups.specs.Groups.{Group as Kept, HasRow, with_row, wit
 ghost use Rattle.store_groups.specs.Shelves.{total};
 
 use crate::cell::Cell;
-use crate::cells::{put_values, remove_values};
+use crate::cells::{copies, put_copies, put_values, remove_values};
 use crate::group::GroupRef;
 use crate::head::Head;
 use base_value::{Standing, Value};
@@ -83,7 +83,7 @@ impl Shelf {
         ensures { IfOk result (λ s. s ≡ self.now) }
     {
         let heads = Vec::from_slice(alloc, self.heads.as_slice())?;
-        let cells = Vec::from_slice(alloc, self.cells.as_slice())?;
+        let cells = copies(alloc, self.cells.as_slice())?;
         Ok(Shelf { heads, cells })
     }
 
@@ -108,6 +108,7 @@ impl Shelf {
     /// Puts a row into the group at a place. Want of memory may spoil the group.
     pub(crate) fn put_row(
         &mut self,
+        alloc: Global,
         i: usize,
         arguments: &[Value],
         standing: Standing,
@@ -123,7 +124,7 @@ impl Shelf {
         let mut head = self.heads[i];
         head.put(standing)?;
         self.heads[i] = head;
-        put_values(&mut self.cells[span.start..span.end], arguments)?;
+        put_values(alloc, &mut self.cells[span.start..span.end], arguments)?;
         Ok(())
     }
 
@@ -151,8 +152,8 @@ impl Shelf {
         heads.extend_from_slice(self.heads.as_slice())?;
         heads.push(group.head())?;
         let mut cells = Vec::with_capacity(alloc, self.cells.len())?;
-        cells.extend_from_slice(self.cells.as_slice())?;
-        cells.extend_from_slice(group.cells())?;
+        put_copies(self.cells.as_slice(), &mut cells)?;
+        put_copies(group.cells(), &mut cells)?;
         Ok(Shelf { heads, cells })
     }
 
@@ -165,8 +166,8 @@ impl Shelf {
         let span = span_of(self.heads.as_slice(), cells, i);
         let mut heads = Vec::from_slice(alloc, self.heads.as_slice())?;
         let _head = heads.remove(i);
-        let mut rest = Vec::from_slice(alloc, &cells[..span.start])?;
-        rest.extend_from_slice(&cells[span.end..])?;
+        let mut rest = copies(alloc, &cells[..span.start])?;
+        put_copies(&cells[span.end..], &mut rest)?;
         Ok(Shelf { heads, cells: rest })
     }
 }

@@ -49,7 +49,7 @@ fn reading_of<'a>(alloc: Global, plan: &'a KeptPlan, part: &Part) -> Result<Read
     ensures rows { IfOk result (λ r. r.rows ≡ selected plan.now part.now) }
 {
     let batch = batch_of(alloc, part)?;
-    let reading = Reading::new(alloc, plan, &batch)?;
+    let reading = Reading::new(alloc, plan, batch)?;
     Ok(reading)
 }
 

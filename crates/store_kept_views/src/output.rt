@@ -51,14 +51,14 @@ fn shown(aggregate: &KeptAggregate, rows: u64, cell: &Cell) -> Value
     match aggregate {
         KeptAggregate::CountRows => Value::Number(Scale::WHOLE, i128::from(rows)),
         KeptAggregate::Count(_) => {
-            let count = Value::Number(Scale::WHOLE, i128::from(cell.tally.terms()));
-            unless_fault(cell.least, count)
+            let count = Value::Number(Scale::WHOLE, i128::from(cell.tally().terms()));
+            unless_fault(cell.standing(), count)
         }
         KeptAggregate::Sum(scale, _) => {
-            if cell.tally.terms() == 0 {
-                return unless_fault(cell.least, Value::Null);
+            if cell.tally().terms() == 0 {
+                return unless_fault(cell.standing(), Value::Null);
             }
-            unless_fault(cell.least, number_or_fault(*scale, cell.tally.total()))
+            unless_fault(cell.standing(), number_or_fault(*scale, cell.tally().total()))
         }
     }
 }

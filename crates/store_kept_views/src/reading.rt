@@ -11,7 +11,7 @@ ghost use Rattle.store_kept_views.specs.Standing.{arguments_in};
 
 use base_columns::{Batch, Column};
 use base_value::{Standing, Value};
-use exec_column_expr::{selected, values_of};
+use exec_column_expr::{truths_of, values_of};
 use expr_scalar::Expr;
 use plan_algebra::{KeptAggregate, KeptPlan};
 use std::alloc::{AllocError, Global};
@@ -107,13 +107,14 @@ impl<'a> Reading<'a> {
     pub(crate) fn new(
         alloc: Global,
         plan: &'a KeptPlan,
-        batch: &Batch,
+        batch: Batch,
     ) -> Result<Reading<'a>, AllocError>
-        requires { length batch.now.rows < 2 ^ 32 }
+        requires { length batch.rows < 2 ^ 32 }
         ensures plan { IfOk result (λ r. r.plan ≡ plan.now) }
-        ensures rows { IfOk result (λ r. r.rows ≡ select (holds_for plan.now) batch.now.rows) }
+        ensures rows { IfOk result (λ r. r.rows ≡ select (holds_for plan.now) batch.rows) }
     {
-        let rows = selected(alloc, plan.condition.get(), batch)?;
+        let truths = truths_of(alloc, plan.condition.get(), &batch)?;
+        let rows = batch.keep(alloc, truths.as_slice())?;
         let keys = keys_of(alloc, plan.by.as_slice(), &rows)?;
         let arguments = arguments_of(alloc, plan.aggregates.as_slice(), &rows)?;
         Ok(Reading {

@@ -25,16 +25,16 @@ invariant_of-result c =
     ∙ full_without c.self.inside.heads.items c.self.inside.cells.items c.args.i c.span_of-span.result.start c.span_of-span.result.end c.remove-head.result p
     (c.remove-head.ensures.value ∙ ap (λ l. get_or l c.args.i c.remove-head.result) heads) c.self.invariant
     (c.span_of-span.ensures.start ∙ ap (λ l. total (take c.args.i l)) c.as_slice.ensures.value) (c.span_of-span.ensures.end ∙ ap (λ l. total (take (c.args.i + 1) l)) c.as_slice.ensures.value)
-    ∙ ap (λ (l : List Stored). length l) (sym (cut_is c.self.inside.cells.items c.as_slice-cells.result.now c.extend_from_slice.new.self.items c.span_of-span.result.start c.span_of-span.result.end
-    c.as_slice-cells.ensures.value (c.in_ok-extend_from_slice.ensures.items ∙ ap (λ l. l ++ take (length c.as_slice-cells.result.now - c.span_of-span.result.end) (drop c.span_of-span.result.end c.as_slice-cells.result.now)) c.in_ok-rest.ensures.items)))
+    ∙ ap (λ (l : List Stored). length l) (sym (cut_is c.self.inside.cells.items c.as_slice-cells.result.now c.put_copies.new.all.items c.span_of-span.result.start c.span_of-span.result.end
+    c.as_slice-cells.ensures.value (c.in_ok-put_copies.ensures ∙ ap (λ l. l ++ take (length c.as_slice-cells.result.now - c.span_of-span.result.end) (drop c.span_of-span.result.end c.as_slice-cells.result.now)) c.in_ok-rest.ensures)))
 
 pub returns : goal.returns
 returns c =
     let p = place_less c.self.inside.heads.items c.self.inside.cells.items c.args.self.now c.args.i c.self.view_is c.requires in
     let heads = c.in_ok-heads.ensures.items ∙ c.as_slice-2.ensures.value in
-    ap (λ l. groups_in l c.extend_from_slice.new.self.items) (c.remove-head.ensures.items ∙ ap (λ l. remove l c.args.i) heads)
-    ∙ ap (λ (l : List Stored). groups_in (remove c.self.inside.heads.items c.args.i) l) (cut_is c.self.inside.cells.items c.as_slice-cells.result.now c.extend_from_slice.new.self.items c.span_of-span.result.start c.span_of-span.result.end
-    c.as_slice-cells.ensures.value (c.in_ok-extend_from_slice.ensures.items ∙ ap (λ l. l ++ take (length c.as_slice-cells.result.now - c.span_of-span.result.end) (drop c.span_of-span.result.end c.as_slice-cells.result.now)) c.in_ok-rest.ensures.items))
+    ap (λ l. groups_in l c.put_copies.new.all.items) (c.remove-head.ensures.items ∙ ap (λ l. remove l c.args.i) heads)
+    ∙ ap (λ (l : List Stored). groups_in (remove c.self.inside.heads.items c.args.i) l) (cut_is c.self.inside.cells.items c.as_slice-cells.result.now c.put_copies.new.all.items c.span_of-span.result.start c.span_of-span.result.end
+    c.as_slice-cells.ensures.value (c.in_ok-put_copies.ensures ∙ ap (λ l. l ++ take (length c.as_slice-cells.result.now - c.span_of-span.result.end) (drop c.span_of-span.result.end c.as_slice-cells.result.now)) c.in_ok-rest.ensures))
     ∙ groups_without c.self.inside.heads.items c.self.inside.cells.items c.args.self.now c.args.i c.span_of-span.result.start c.span_of-span.result.end c.remove-head.result c.self.view_is p
     (c.remove-head.ensures.value ∙ ap (λ l. get_or l c.args.i c.remove-head.result) heads) c.self.invariant
     (c.span_of-span.ensures.start ∙ ap (λ l. total (take c.args.i l)) c.as_slice.ensures.value) (c.span_of-span.ensures.end ∙ ap (λ l. total (take (c.args.i + 1) l)) c.as_slice.ensures.value)
