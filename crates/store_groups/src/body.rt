@@ -1,7 +1,7 @@
 //! What a page holds: keys with their groups.
 ghost use Rattle.std.specs.Prelude.{◌≡◌, ◌++◌, ◌∷◌, ◌<◌, [], IfOk, OnErr};
 ghost use Rattle.base_value.specs.declared.value.Value.{Value as Datum};
-ghost use Rattle.std.specs.Prelude.{List, OnOk, Some, is_some, length, map, option_map, remove, slice_get};
+ghost use Rattle.std.specs.Prelude.{List, OnOk, Some, is_some, length, option_map, remove, slice_get};
 ghost use Rattle.std.specs.List.{IsDistinct};
 ghost use Rattle.base_value.specs.Truth.{standing_rank};
 ghost use Rattle.store_groups.specs.Entries.{CanTake, HasLong, IsHash, group_at};

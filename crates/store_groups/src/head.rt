@@ -1,5 +1,5 @@
 //! How many rows a group has and how they stand, apart from its cells.
-ghost use Rattle.std.specs.Prelude.{◌≡◌, ◌+◌, ◌≤◌, min, OnOk};
+ghost use Rattle.std.specs.Prelude.{◌≡◌, ◌+◌, min, OnOk};
 ghost use Rattle.base_value.specs.Truth.{standing_rank};
 
 use base_value::Standing;

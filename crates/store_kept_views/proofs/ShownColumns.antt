@@ -1,12 +1,12 @@
 -- Rows that are shown column by column.
-use Rattle.std.proofs.Common.{◌≡◌, ℕ, ◌+◌, ◌<◌, List, [], ◌∷◌, ◌++◌, refl, sym, ◌∙◌, ap, subst, arith, Some, Option, length, zero, suc}
+use Rattle.std.proofs.Common.{◌≡◌, ℕ, ◌+◌, List, [], ◌∷◌, ◌++◌, refl, sym, ◌∙◌, ap, subst, arith, Some, Option, length, zero, suc}
 use Rattle.std.specs.List.{slice_get}
 use Rattle.std.specs.Option.{option_map}
 use Rattle.std.specs.Prelude.{drop, map, take}
 use lib.ListN.{get_or}
 use Rattle.std.proofs.lemmas.List.{append_assoc, length-map}
 use Rattle.base_columns.specs.Batches.{AreLong, cells, column_relation, rows_from}
-use Rattle.base_row_laws.specs.Ranked.{Ranked, Relation, ranked, relation}
+use Rattle.base_row_laws.specs.Ranked.{Relation, ranked}
 use Rattle.base_row_laws.specs.Rows.{columns}
 use Rattle.base_row_laws.proofs.Lists.{map-ext, map-map}
 use Rattle.base_value.specs.Truth.{standing_rank}

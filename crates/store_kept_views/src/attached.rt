@@ -1,5 +1,5 @@
 //! Kept groups that a version carries along.
-ghost use Rattle.std.specs.Prelude.{◌≡◌, ◌<◌, List, Some, IfOk, IfSome, length, slice_get};
+ghost use Rattle.std.specs.Prelude.{◌≡◌, ◌<◌, List, Some, IfOk, length, slice_get};
 ghost use Rattle.base_row_laws.specs.Bags.{SameBag};
 ghost use Rattle.base_schema.specs.State.{State as Tables, table_rows};
 ghost use Rattle.plan_algebra.specs.KeptPlans.{query_rows};

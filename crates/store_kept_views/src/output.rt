@@ -5,7 +5,7 @@ ghost use Rattle.base_row_laws.specs.Bags.{SameBag};
 ghost use Rattle.base_value.specs.declared.value.Value.{Value as Datum};
 ghost use Rattle.plan_algebra.specs.KeptPlans.{query_rows};
 ghost use Rattle.store_kept_views.specs.Standing.{StandsFor};
-ghost use Rattle.std.specs.Prelude.{◌≡◌, ◌++◌, ◌∷◌, ◌<◌, [], IfOk, List, OnOk, length, map};
+ghost use Rattle.std.specs.Prelude.{◌≡◌, ◌∷◌, ◌<◌, [], IfOk, List, OnOk, length, map};
 ghost use Rattle.std.specs.Prelude.{MatchOption, slice_index_or};
 ghost use Rattle.base_value.specs.Truth.{standing_rank};
 ghost use Rattle.expr_aggregates.specs.Values.{number_or_fault};

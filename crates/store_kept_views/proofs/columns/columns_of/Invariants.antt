@@ -1,5 +1,5 @@
-use Rattle.std.proofs.Common.{◌≡◌, ◌++◌}
-use Rattle.std.specs.Prelude.{take, map}
+use Rattle.std.proofs.Common.{◌≡◌}
+use Rattle.std.specs.Prelude.{take}
 use Rattle.store_groups.specs.Pages.{entries_of}
 use Rattle.store_kept_views.specs.Output.{shown_columns}
 use Rattle.store_kept_views.proofs.columns.columns_of.Given as goal

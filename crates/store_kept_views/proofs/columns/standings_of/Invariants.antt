@@ -1,4 +1,4 @@
-use Rattle.std.proofs.Common.{◌≡◌, ◌++◌}
+use Rattle.std.proofs.Common.{◌≡◌}
 use Rattle.std.specs.Prelude.{take, map}
 use Rattle.base_value.specs.Truth.{standing_rank}
 use Rattle.store_groups.specs.Pages.{entries_of}

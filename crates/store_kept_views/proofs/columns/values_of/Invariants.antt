@@ -1,4 +1,4 @@
-use Rattle.std.proofs.Common.{◌≡◌, ◌++◌}
+use Rattle.std.proofs.Common.{◌≡◌}
 use Rattle.std.specs.Prelude.{take, map}
 use Rattle.store_groups.specs.Pages.{entries_of}
 use Rattle.store_kept_views.specs.Output.{value_in}
