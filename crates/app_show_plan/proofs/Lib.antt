@@ -1,1 +1,5 @@
+pub mod ShownSteps
+pub mod ViewOutcomes
+pub mod Fronts
+pub mod Firsts
 pub mod Printing

@@ -3,8 +3,8 @@ use Rattle.std.specs.Prelude.{ℕ, List, [], ◌∷◌, Bool, Option, None, Some
 use Rattle.std.specs.Prelude.{if◌then◌else◌}
 use Rattle.std.specs.List.{starts_with}
 use Rattle.std.specs.Str.{bytes_eq}
-use Rattle.app_script_plans.specs.declared.script.PlanForm.{PlanForm}
-use Rattle.app_script_plans.specs.declared.script.PlanForm.TheVariants.{Lines, Objects}
+use Rattle.app_show_plan.specs.declared.script.PlanForm.{PlanForm}
+use Rattle.app_show_plan.specs.declared.script.PlanForm.TheVariants.{Lines, Objects}
 use Rattle.app_show_plan.specs.declared.words.Request.{Request}
 
 -- how plans are written, the name of the script, and the folder of the tables, where one is named

@@ -17,8 +17,8 @@ use Rattle.app_inputs.specs.declared.input_error.InputError.TheVariants as error
 use Rattle.app_inputs.specs.declared.input_error.InputFault.TheVariants as fault
 use Rattle.app_inputs.specs.declared.status.Status.{Status}
 use Rattle.app_inputs.specs.declared.status.Status.TheVariants as status
-use Rattle.app_script_plans.specs.Shown.{ShowsScript}
-use Rattle.app_script_plans.specs.declared.script.PlanForm.{PlanForm}
+use Rattle.app_show_plan.specs.Shown.{ShowsScript}
+use Rattle.app_show_plan.specs.declared.script.PlanForm.{PlanForm}
 use Rattle.app_show_plan.specs.Asked.{Asked}
 
 -- the line for words of another form

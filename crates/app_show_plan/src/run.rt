@@ -7,16 +7,17 @@ ghost use Rattle.sql_parser.specs.Script.{IsRefusedScript};
 ghost use Rattle.app_inputs.specs.FilesAfter.{FilesAfterInput, FilesAfterRead};
 ghost use Rattle.app_inputs.specs.Printing.{IsAnswer};
 ghost use Rattle.app_inputs.specs.Views.{Reads};
-ghost use Rattle.app_script_plans.specs.Shown.{ShowsScript};
+ghost use Rattle.app_show_plan.specs.Shown.{ShowsScript};
 ghost use Rattle.app_show_plan.specs.Asked.{asked, asked_view};
 ghost use Rattle.app_show_plan.specs.Printed.{IsTextOf, MeansShown, Prints, PrintsRefusal, tables_in};
 
+use crate::place::place_line;
+use crate::script::{PlanForm, ScriptPlans, script_plans};
 use crate::words::{Request, read_words};
 use app_inputs::{
     InputError, InputFault, ReadError, RefusedInput, Status, line_of_refusal, read_file,
     read_state, write_text,
 };
-use app_script_plans::{PlanForm, ScriptPlans, place_line, script_plans};
 use base_io::{Files, Sink};
 use sql_ast::Statement;
 use sql_parser::{MAX_SCRIPT, ScriptFault, ScriptRefusal, read_script};

@@ -3,7 +3,7 @@ ghost use Rattle.std.specs.Prelude.{◌≡◌, map, option_map};
 ghost use Rattle.std.specs.String.{string_bytes};
 ghost use Rattle.app_show_plan.specs.Asked.{asked, asked_for, asked_in, asked_view};
 
-use app_script_plans::PlanForm;
+use crate::script::PlanForm;
 
 /// What the words ask for.
 #[derive(Clone, Copy)]

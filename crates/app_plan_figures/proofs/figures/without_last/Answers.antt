@@ -1,8 +1,0 @@
-use Rattle.app_plan_figures.proofs.Fronts.{front_formed}
-use Rattle.app_plan_figures.proofs.figures.without_last.Goals as goal
-
-pub invariant_of-result : goal.invariant_of-result
-invariant_of-result c = record {
-  formed = front_formed c.args.plan.nodes c.pop-last.new.self c.pop-last.result
-      c.args.plan.formed c.pop-last.ensures;
-}

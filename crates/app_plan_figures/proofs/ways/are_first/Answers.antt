@@ -1,7 +1,0 @@
-use Rattle.app_plan_figures.proofs.Firsts.{first_more}
-use Rattle.app_plan_figures.proofs.ways.are_first.Goals as goal
-
-pub loop-place-preserved : goal.loop-place-preserved
-loop-place-preserved c =
-    first_more c.args.matched.now c.loop-place.place (0, 0) c.loop-place-test.true
-    c.loop-place.invariant c.if-pair-place.false

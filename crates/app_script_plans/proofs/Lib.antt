@@ -1,2 +1,0 @@
-pub mod ShownSteps
-pub mod ViewOutcomes

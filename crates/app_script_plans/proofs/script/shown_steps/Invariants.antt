@@ -1,5 +1,0 @@
-use Rattle.app_script_plans.proofs.ShownSteps.{AreShownUpTo}
-use Rattle.app_script_plans.proofs.script.shown_steps.Given as goal
-
-abbrev pub invariant-loop-place : goal.invariant-loop-place
-invariant-loop-place g l = AreShownUpTo l.form l.steps l.place l.views l.text.items l.is_clean
