@@ -237,15 +237,10 @@ fn put_block(alloc: Global, page: &mut Page, q: &BoundBlock) -> ShownQuery {
             put_select(alloc, page, block, es.as_slice())
         }
         BoundBlock::Grouped(_, _, by, aggregates, having, es) => {
+            let (by, aggregates) = (by.as_slice(), aggregates.as_slice());
             let mut block = Block::begun(page);
             put_rows(alloc, page, &mut block, q);
-            put_groups(
-                alloc,
-                page,
-                &mut block,
-                by.as_slice(),
-                aggregates.as_slice(),
-            );
+            put_groups(alloc, page, &mut block, by, aggregates);
             put_condition(alloc, page, &mut block, b"having", having);
             put_select(alloc, page, block, es.as_slice())
         }
@@ -260,15 +255,8 @@ fn put_block(alloc: Global, page: &mut Page, q: &BoundBlock) -> ShownQuery {
             let block = Block::begun(page);
             let left = put_deeper(alloc, page, a.get());
             let right = put_deeper(alloc, page, b.get());
-            end_set(
-                alloc,
-                page,
-                block,
-                left,
-                right,
-                columns.as_slice(),
-                *operation,
-            )
+            let columns = columns.as_slice();
+            end_set(alloc, page, block, left, right, columns, *operation)
         }
     }
 }
