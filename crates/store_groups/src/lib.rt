@@ -21,6 +21,7 @@ pub use cell::Cell;
 pub use entry::Taken;
 pub use group::{Group, GroupRef};
 pub use groups::Groups;
+pub use key::stripe_of;
 pub use large_cell::LargeCell;
 pub use page::Page;
 pub use small_cell::SmallCell;

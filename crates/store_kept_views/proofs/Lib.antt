@@ -8,3 +8,4 @@ pub mod ViewLists
 pub mod PartLists
 pub mod RefreshMoves
 pub mod ShownColumns
+pub mod StripeLists

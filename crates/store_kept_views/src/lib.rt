@@ -10,6 +10,7 @@ pub mod laws;
 mod moving;
 mod output;
 mod reading;
+mod stripes;
 mod view;
 
 pub use attached::{KeptOf, Plans};

@@ -58,7 +58,10 @@ fn shown(aggregate: &KeptAggregate, rows: u64, cell: &Cell) -> Value
             if cell.tally().terms() == 0 {
                 return unless_fault(cell.standing(), Value::Null);
             }
-            unless_fault(cell.standing(), number_or_fault(*scale, cell.tally().total()))
+            unless_fault(
+                cell.standing(),
+                number_or_fault(*scale, cell.tally().total()),
+            )
         }
     }
 }
