@@ -57,7 +57,7 @@ impl Body {
         ensures { IfOk result (λ b. b ≡ []) }
     {
         let keys = Arc::new(alloc, Vec::new(alloc))?;
-        let groups = Shelf::none(alloc);
+        let groups = Shelf::none(alloc)?;
         Ok(Body { keys, groups })
     }
 

@@ -1,51 +1,42 @@
 //! What is kept of the values of an aggregate's argument.
-ghost use Rattle.std.specs.Prelude.{◌≡◌, IfOk, OnOk};
-ghost use Rattle.base_row_laws.specs.Ranked.{true_rank};
-ghost use Rattle.base_decimal.specs.Tally.{no_terms};
+ghost use Rattle.std.specs.Prelude.{◌≡◌, OnOk};
 ghost use Rattle.base_value.specs.Truth.{standing_rank};
 ghost use Rattle.store_groups.specs.Groups.{HasValue, cell, is_plain, with_value, without_value};
 ghost use Rattle.store_groups.specs.Stored.{cell_in};
 
-use crate::large_cell::LargeCell;
-use crate::small_cell::SmallCell;
+use crate::value::{is_null, standing_of, term_of};
 use base_decimal::Tally;
 use base_value::{Standing, Value};
-use std::alloc::{AllocError, Global};
+use std::alloc::AllocError;
 
 /// The least standing of the values, True's for one that is no fault, and the tally of those that
-/// are not null. What is no number counts as 0. A page is copied whole, so a cell takes few bytes
-/// as long as it can.
-#[derive(Drop)]
-pub enum Cell {
-    Small(SmallCell),
-    Large(LargeCell),
+/// are not null. What is no number counts as 0.
+#[derive(Clone, Copy)]
+pub struct Cell {
+    least: Standing,
+    tally: Tally,
 }
 
 impl Cell {
-    /// Of no values.
-    pub(crate) fn none() -> Cell
-        ensures { cell_in result ≡ cell true_rank no_terms }
+    /// Of this least standing and this tally.
+    pub(crate) fn new(least: Standing, tally: Tally) -> Cell
+        ensures { cell_in result ≡ cell (standing_rank least) tally }
     {
-        Cell::Small(SmallCell::none())
+        Cell { least, tally }
     }
 
     /// Puts a value in. More values than are counted are an error, as memory that isn't there.
-    pub(crate) fn put(&mut self, alloc: Global, value: &Value) -> Result<(), AllocError>
+    pub(crate) fn put(&mut self, value: &Value) -> Result<(), AllocError>
         ensures { OnOk result (cell_in self.new ≡ with_value (cell_in self.old) value.now) }
     {
-        match self {
-            Cell::Small(small) => {
-                if let Some(more) = small.with(value) {
-                    *small = more;
-                    return Ok(());
-                }
-                let mut large = LargeCell::new(alloc, small.standing(), small.tally())?;
-                large.put(value)?;
-                *self = Cell::Large(large);
-                Ok(())
+        self.least = self.least.lesser(standing_of(value));
+        if !is_null(value) {
+            if self.tally.terms() == u64::MAX {
+                return Err(AllocError);
             }
-            Cell::Large(large) => large.put(value),
+            self.tally.put(term_of(value));
         }
+        Ok(())
     }
 
     /// Takes one of its values out.
@@ -53,9 +44,8 @@ impl Cell {
         requires { HasValue (cell_in self.old) value.now }
         ensures { cell_in self.new ≡ without_value (cell_in self.old) value.now }
     {
-        match self {
-            Cell::Small(small) => small.remove(value),
-            Cell::Large(large) => large.remove(value),
+        if !is_null(value) {
+            self.tally.remove(term_of(value));
         }
     }
 
@@ -63,39 +53,20 @@ impl Cell {
     pub fn standing(&self) -> Standing
         ensures { standing_rank result ≡ (cell_in self.now).least }
     {
-        match self {
-            Cell::Small(small) => small.standing(),
-            Cell::Large(large) => large.standing(),
-        }
+        self.least
     }
 
     /// The tally of the values that are not null.
     pub fn tally(&self) -> Tally
         ensures { result ≡ (cell_in self.now).sums }
     {
-        match self {
-            Cell::Small(small) => small.tally(),
-            Cell::Large(large) => large.tally(),
-        }
+        self.tally
     }
 
     /// Whether no fault is among the values, and their sum is a number.
     pub(crate) fn is_plain(&self) -> bool
         ensures { result ≡ is_plain (cell_in self.now) }
     {
-        matches!(self.standing(), Standing::AtTrue) && self.tally().total().is_ok()
-    }
-}
-
-impl Clone for Cell {
-    ghost is_clone = { λ c d. d ≡ c };
-
-    fn clone(&self) -> Result<Cell, AllocError>
-        ensures { IfOk result (λ c. c ≡ self.now) }
-    {
-        match self {
-            Cell::Small(small) => Ok(Cell::Small(*small)),
-            Cell::Large(large) => Ok(Cell::Large(large.clone()?)),
-        }
+        matches!(self.least, Standing::AtTrue) && self.tally.total().is_ok()
     }
 }

@@ -1,11 +1,11 @@
 //! What is kept of a group of rows.
-ghost use Rattle.std.specs.Prelude.{◌≡◌, IfOk, OnOk, length, map};
+ghost use Rattle.std.specs.Prelude.{◌≡◌, ◌<◌, IfOk, OnOk, Some, length, slice_get};
 ghost use Rattle.base_value.specs.Truth.{standing_rank};
 ghost use Rattle.store_groups.specs.Groups.{group, is_faultless, no_rows, with_row};
 ghost use Rattle.store_groups.specs.Stored.{cell_in};
 
 use crate::cell::Cell;
-use crate::cells::{are_plain, copies, no_cells, put_values};
+use crate::cells::{Cells, CellsRef};
 use crate::head::Head;
 use base_value::{Standing, Value};
 use std::alloc::{AllocError, Global};
@@ -16,18 +16,16 @@ use std::marker::Model;
 pub struct Group {
     rows: u64,
     least: Standing,
-    cells: Vec<Cell>,
+    cells: Cells,
 }
 
 impl Model for Group {
-    ghost use Rattle.std.specs.Prelude.{map};
     ghost use Rattle.base_value.specs.Truth.{standing_rank};
     ghost use Rattle.store_groups.specs.Groups.{Group as Kept, group};
-    ghost use Rattle.store_groups.specs.Stored.{cell_in};
 
     ghost Value = { Kept };
 
-    ghost view = { λ g. group g.rows (standing_rank g.least) (map cell_in g.cells.items) };
+    ghost view = { λ g. group g.rows (standing_rank g.least) g.cells };
 }
 
 /// A group where it lies.
@@ -35,18 +33,16 @@ impl Model for Group {
 pub struct GroupRef<'a> {
     rows: u64,
     least: Standing,
-    cells: &'a [Cell],
+    cells: CellsRef<'a>,
 }
 
 impl<'a> Model for GroupRef<'a> {
-    ghost use Rattle.std.specs.Prelude.{map};
     ghost use Rattle.base_value.specs.Truth.{standing_rank};
     ghost use Rattle.store_groups.specs.Groups.{Group as Kept, group};
-    ghost use Rattle.store_groups.specs.Stored.{cell_in};
 
     ghost Value = { Kept };
 
-    ghost view = { λ g. group g.rows (standing_rank g.least) (map cell_in g.cells.now) };
+    ghost view = { λ g. group g.rows (standing_rank g.least) g.cells };
 }
 
 impl Group {
@@ -54,7 +50,7 @@ impl Group {
     pub fn none(alloc: Global, count: usize) -> Result<Group, AllocError>
         ensures { IfOk result (λ g. g ≡ no_rows count) }
     {
-        let cells = no_cells(alloc, count)?;
+        let cells = Cells::none(alloc, count)?;
         Ok(Group {
             rows: 0,
             least: Standing::AtTrue,
@@ -69,7 +65,7 @@ impl Group {
         GroupRef {
             rows: self.rows,
             least: self.least,
-            cells: self.cells.as_slice(),
+            cells: self.cells.all(),
         }
     }
 
@@ -87,15 +83,15 @@ impl Group {
     {
         self.rows = self.rows.checked_add(1).ok_or(AllocError)?;
         self.least = self.least.lesser(standing);
-        put_values(alloc, self.cells.as_mut_slice(), arguments)?;
+        self.cells.put_values(alloc, 0, arguments.len(), arguments)?;
         Ok(())
     }
 }
 
 impl<'a> GroupRef<'a> {
     /// The group of so many rows, of this least standing and these cells.
-    pub(crate) fn new(rows: u64, least: Standing, cells: &'a [Cell]) -> GroupRef<'a>
-        ensures { result ≡ group rows (standing_rank least) (map cell_in cells.now) }
+    pub(crate) fn new(rows: u64, least: Standing, cells: CellsRef<'a>) -> GroupRef<'a>
+        ensures { result ≡ group rows (standing_rank least) cells.entry }
     {
         GroupRef { rows, least, cells }
     }
@@ -104,7 +100,7 @@ impl<'a> GroupRef<'a> {
     pub(crate) fn copy(&self, alloc: Global) -> Result<Group, AllocError>
         ensures { IfOk result (λ g. g ≡ self.now) }
     {
-        let cells = copies(alloc, self.cells)?;
+        let cells = self.cells.copy(alloc)?;
         Ok(Group {
             rows: self.rows,
             least: self.least,
@@ -126,11 +122,26 @@ impl<'a> GroupRef<'a> {
         self.least
     }
 
-    /// The cells.
-    pub fn cells(&self) -> &[Cell]
-        ensures { map cell_in result.now ≡ self.now.cells }
+    /// How many cells there are.
+    pub fn width(&self) -> usize
+        ensures { result ≡ length self.now.cells }
     {
-        self.cells
+        self.cells.len()
+    }
+
+    /// The cell at a place.
+    pub fn cell(&self, i: usize) -> Cell
+        requires { i < length self.now.cells }
+        ensures { slice_get self.now.cells i ≡ Some (cell_in result) }
+    {
+        self.cells.at(i)
+    }
+
+    /// The cells, where they lie.
+    pub(crate) fn cells(&self) -> &CellsRef<'a>
+        ensures { result.now ≡ self.now.cells }
+    {
+        &self.cells
     }
 
     /// What it has apart from the cells.
@@ -150,6 +161,6 @@ impl<'a> GroupRef<'a> {
     pub(crate) fn is_faultless(&self) -> bool
         ensures { result ≡ is_faultless self.now }
     {
-        matches!(self.least, Standing::AtTrue) && are_plain(self.cells)
+        matches!(self.least, Standing::AtTrue) && self.cells.are_plain()
     }
 }

@@ -43,12 +43,12 @@ pub(crate) fn hash_of(key: &[Value]) -> u64
     hashed(key)
 }
 
-/// The stripe of a key, one of 16. Keys of one stripe lie on a sixteenth of the pages of a table, so
+/// The stripe of a key, one of 4. Keys of one stripe lie on a quarter of the pages of a table, so
 /// that rows which are put in or taken out stripe by stripe find their pages near.
 pub fn stripe_of(key: &[Value]) -> u8
-    ensures { result < 16 }
+    ensures { result < 4 }
 {
-    (hash_of(key) % 16) as u8
+    (hash_of(key) % 4) as u8
 }
 
 impl Key {

@@ -5,8 +5,7 @@ ghost use Rattle.base_value.specs.Truth.{standing_rank};
 ghost use Rattle.store_groups.specs.Groups.{Group as Kept, HasRow, with_row, without_row};
 ghost use Rattle.store_groups.specs.Shelves.{total};
 
-use crate::cell::Cell;
-use crate::cells::{copies, put_copies, put_values, remove_values};
+use crate::cells::Cells;
 use crate::group::GroupRef;
 use crate::head::Head;
 use base_value::{Standing, Value};
@@ -17,7 +16,7 @@ use std::marker::Model;
 #[derive(Drop)]
 pub(crate) struct Shelf {
     heads: Vec<Head>,
-    cells: Vec<Cell>,
+    cells: Cells,
 }
 
 impl Model for Shelf {
@@ -27,9 +26,9 @@ impl Model for Shelf {
 
     ghost Value = { List Kept };
 
-    ghost view = { λ s. groups_in s.heads.items s.cells.items };
+    ghost view = { λ s. groups_in s.heads.items s.cells };
 
-    ghost invariant = { λ s. total s.heads.items ≡ length s.cells.items };
+    ghost invariant = { λ s. total s.heads.items ≡ length s.cells };
 }
 
 // How many cells the first groups have.
@@ -53,7 +52,7 @@ struct Span {
 }
 
 // Where the cells of the group at a place lie.
-fn span_of(heads: &[Head], cells: &[Cell], i: usize) -> Span
+fn span_of(heads: &[Head], cells: &Cells, i: usize) -> Span
     requires within { i < length heads.now }
     requires full { total heads.now ≡ length cells.now }
     ensures start { result.start ≡ total (take i heads.now) }
@@ -69,13 +68,14 @@ fn span_of(heads: &[Head], cells: &[Cell], i: usize) -> Span
 
 impl Shelf {
     /// No groups.
-    pub(crate) fn none(alloc: Global) -> Shelf
-        ensures { result ≡ [] }
+    pub(crate) fn none(alloc: Global) -> Result<Shelf, AllocError>
+        ensures { IfOk result (λ s. s ≡ []) }
     {
-        Shelf {
+        let cells = Cells::none(alloc, 0)?;
+        Ok(Shelf {
             heads: Vec::new(alloc),
-            cells: Vec::new(alloc),
-        }
+            cells,
+        })
     }
 
     /// A copy of them.
@@ -83,7 +83,7 @@ impl Shelf {
         ensures { IfOk result (λ s. s ≡ self.now) }
     {
         let heads = Vec::from_slice(alloc, self.heads.as_slice())?;
-        let cells = copies(alloc, self.cells.as_slice())?;
+        let cells = self.cells.all().copy(alloc)?;
         Ok(Shelf { heads, cells })
     }
 
@@ -99,10 +99,10 @@ impl Shelf {
         requires { i < length self.now }
         ensures { slice_get self.now i ≡ Some result }
     {
-        let cells = self.cells.as_slice();
-        let span = span_of(self.heads.as_slice(), cells, i);
+        let span = span_of(self.heads.as_slice(), &self.cells, i);
         let head = self.heads[i];
-        GroupRef::new(head.rows, head.least, &cells[span.start..span.end])
+        let cells = self.cells.part(span.start, span.end);
+        GroupRef::new(head.rows, head.least, cells)
     }
 
     /// Puts a row into the group at a place. Want of memory may spoil the group.
@@ -120,11 +120,12 @@ impl Shelf {
         ensures set { OnOk result ((g : Kept) → slice_get self.old i ≡ Some g
             → self.new ≡ set self.old i (with_row g arguments.now (standing_rank standing))) }
     {
-        let span = span_of(self.heads.as_slice(), self.cells.as_slice(), i);
+        let span = span_of(self.heads.as_slice(), &self.cells, i);
         let mut head = self.heads[i];
         head.put(standing)?;
         self.heads[i] = head;
-        put_values(alloc, &mut self.cells[span.start..span.end], arguments)?;
+        self.cells
+            .put_values(alloc, span.start, span.end, arguments)?;
         Ok(())
     }
 
@@ -137,11 +138,11 @@ impl Shelf {
         ensures { (g : Kept) → slice_get self.old i ≡ Some g
             → self.new ≡ set self.old i (without_row g arguments.now) }
     {
-        let span = span_of(self.heads.as_slice(), self.cells.as_slice(), i);
+        let span = span_of(self.heads.as_slice(), &self.cells, i);
         let mut head = self.heads[i];
         head.rows -= 1;
         self.heads[i] = head;
-        remove_values(&mut self.cells[span.start..span.end], arguments);
+        self.cells.remove_values(span.start, span.end, arguments);
     }
 
     /// The same groups and one more after them.
@@ -151,9 +152,7 @@ impl Shelf {
         let mut heads = Vec::with_capacity(alloc, self.heads.len() + 1)?;
         heads.extend_from_slice(self.heads.as_slice())?;
         heads.push(group.head())?;
-        let mut cells = Vec::with_capacity(alloc, self.cells.len())?;
-        put_copies(self.cells.as_slice(), &mut cells)?;
-        put_copies(group.cells(), &mut cells)?;
+        let cells = self.cells.all().with(alloc, group.cells())?;
         Ok(Shelf { heads, cells })
     }
 
@@ -162,12 +161,12 @@ impl Shelf {
         requires { i < length self.now }
         ensures { IfOk result (λ s. s ≡ remove self.now i) }
     {
-        let cells = self.cells.as_slice();
-        let span = span_of(self.heads.as_slice(), cells, i);
+        let span = span_of(self.heads.as_slice(), &self.cells, i);
         let mut heads = Vec::from_slice(alloc, self.heads.as_slice())?;
         let _head = heads.remove(i);
-        let mut rest = copies(alloc, &cells[..span.start])?;
-        put_copies(&cells[span.end..], &mut rest)?;
-        Ok(Shelf { heads, cells: rest })
+        let before = self.cells.part(0, span.start);
+        let after = self.cells.part(span.end, self.cells.len());
+        let cells = before.with(alloc, &after)?;
+        Ok(Shelf { heads, cells })
     }
 }

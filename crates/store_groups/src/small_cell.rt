@@ -1,10 +1,11 @@
 //! A cell of few bytes.
 ghost use Rattle.std.specs.Prelude.{◌≡◌, IfSome};
 ghost use Rattle.base_row_laws.specs.Ranked.{true_rank};
-ghost use Rattle.base_value.specs.Truth.{standing_rank};
 ghost use Rattle.base_decimal.specs.Tally.{HasTerm, no_terms, with_term, without_term};
-ghost use Rattle.store_groups.specs.Groups.{HasValue, cell, with_value, without_value};
+ghost use Rattle.store_groups.specs.Groups.{HasValue, cell, is_plain, with_value, without_value};
+ghost use Rattle.store_groups.specs.Stored.{cell_in};
 
+use crate::cell::Cell;
 use crate::value::{is_null, term_of};
 use base_decimal::Tally;
 use base_value::{Standing, Value};
@@ -106,18 +107,22 @@ impl SmallCell {
         }
     }
 
-    /// The least standing of the values, which is True's.
-    pub(crate) fn standing(&self) -> Standing
-        ensures { standing_rank result ≡ self.now.least }
+    /// The same as a cell of any values.
+    pub(crate) fn enlarged(&self) -> Cell
+        ensures { cell_in result ≡ self.now }
     {
-        let _terms = self.terms;
-        Standing::AtTrue
+        Cell::new(
+            Standing::AtTrue,
+            Tally::of(self.terms, self.above, self.below),
+        )
     }
 
-    /// The tally of the values that are not null.
-    pub(crate) fn tally(&self) -> Tally
-        ensures { result ≡ self.now.sums }
+    /// Whether the sum is a number, which it is.
+    pub(crate) fn is_plain(&self) -> bool
+        ensures { result ≡ is_plain self.now }
     {
-        Tally::of(self.terms, self.above, self.below)
+        // A field that is used tells its bits.
+        let (_above, _below) = (self.above, self.below);
+        true
     }
 }

@@ -18,13 +18,11 @@ use Rattle.base_row_laws.proofs.Tables.{entries_made}
 use Rattle.base_value.specs.declared.value.Value.{Value}
 use Rattle.base_value.specs.declared.value.Value.TheVariants.{Null}
 use Rattle.base_value.specs.Value.{same_value}
-use Rattle.store_groups.specs.declared.cell.Cell.{Cell as Stored}
 use Rattle.plan_algebra.specs.declared.kept_plan.KeptPlan.{KeptPlan}
 use Rattle.plan_algebra.specs.declared.kept_plan.KeptAggregate.{KeptAggregate}
-use Rattle.store_groups.specs.Stored.{cell_in}
 use Rattle.plan_algebra.specs.KeptPlans.{kept_groups as groups}
 use Rattle.plan_algebra.specs.KeptPlans.{item_of, selected, query_rows}
-use Rattle.store_groups.specs.Groups.{Group}
+use Rattle.store_groups.specs.Groups.{Cell, Group}
 use Rattle.store_kept_views.specs.RowGroups.{group_of, shown, all_shown, row_of}
 use Rattle.store_groups.specs.Entries.{Entries, same_key, group_at}
 use Rattle.store_kept_views.specs.Standing.{rows_at, made_at, StandsFor}
@@ -36,21 +34,24 @@ use Rattle.store_groups.specs.Pages.{entries_of}
 use Rattle.store_kept_views.proofs.Made.{key, made_here, made_none}
 
 -- the value of the aggregate at a place
-pub shown_in : (ags : List KeptAggregate) (n : ℕ) (cs : List Stored) (i : ℕ) (a : KeptAggregate) (c : Stored) → i < length ags → i < length cs → a ≡ get_or ags i a → c ≡ get_or cs i c
-    → shown a n (cell_in c) ≡ get_or (all_shown ags n (map cell_in cs)) i Null
-shown_in [] n cs i a c la lc ia ic = absurd (omega arith)
-shown_in (x ∷ ags) n [] i a c la lc ia ic = absurd (omega arith)
-shown_in (x ∷ ags) n (y ∷ cs) zero a c la lc ia ic = rw (ia, ic)
-shown_in (x ∷ ags) n (y ∷ cs) (suc i) a c la lc ia ic = shown_in ags n cs i a c (omega arith) (omega arith) ia ic
+some_cell : (x y : Cell) → Some x ≡ Some y → x ≡ y
+some_cell x y e = cc
+
+pub shown_in : (ags : List KeptAggregate) (n : ℕ) (cs : List Cell) (i : ℕ) (a : KeptAggregate) (c : Cell) → i < length ags → slice_get cs i ≡ Some c → a ≡ get_or ags i a
+    → shown a n c ≡ get_or (all_shown ags n cs) i Null
+shown_in [] n cs i a c la ic ia = absurd (omega arith)
+shown_in (x ∷ ags) n [] i a c la ic ia = cc
+shown_in (x ∷ ags) n (y ∷ cs) zero a c la ic ia = let e = some_cell y c ic in rw (ia, e)
+shown_in (x ∷ ags) n (y ∷ cs) (suc i) a c la ic ia = shown_in ags n cs i a c (omega arith) ic ia
 
 -- past the last aggregate, or the last cell
-pub ags_past : (ags : List KeptAggregate) (n : ℕ) (cs : List Stored) (i : ℕ) → length ags ≤ i → Null ≡ get_or (all_shown ags n (map cell_in cs)) i Null
+pub ags_past : (ags : List KeptAggregate) (n : ℕ) (cs : List Cell) (i : ℕ) → length ags ≤ i → Null ≡ get_or (all_shown ags n cs) i Null
 ags_past [] n cs i le = refl
 ags_past (x ∷ ags) n [] i le = refl
 ags_past (x ∷ ags) n (y ∷ cs) zero le = absurd (omega arith)
 ags_past (x ∷ ags) n (y ∷ cs) (suc i) le = ags_past ags n cs i (omega arith)
 
-pub cells_past : (ags : List KeptAggregate) (n : ℕ) (cs : List Stored) (i : ℕ) → length cs ≤ i → Null ≡ get_or (all_shown ags n (map cell_in cs)) i Null
+pub cells_past : (ags : List KeptAggregate) (n : ℕ) (cs : List Cell) (i : ℕ) → length cs ≤ i → Null ≡ get_or (all_shown ags n cs) i Null
 cells_past [] n cs i le = refl
 cells_past (x ∷ ags) n [] i le = refl
 cells_past (x ∷ ags) n (y ∷ cs) zero le = absurd (omega arith)

@@ -45,7 +45,7 @@ fn number_at(
     if place < key.len() {
         return small_number(&key[place], scale);
     }
-    let value = shown_at(aggregates, group.len(), group.cells(), place - key.len());
+    let value = shown_at(aggregates, group, place - key.len());
     small_number(&value, scale)
 }
 

@@ -67,22 +67,17 @@ fn shown(aggregate: &KeptAggregate, rows: u64, cell: &Cell) -> Value
 }
 
 /// The value of an aggregate of a group, null where it is not there.
-pub(crate) fn shown_at(
-    aggregates: &[KeptAggregate],
-    rows: u64,
-    cells: &[Cell],
-    place: usize,
-) -> Value
+pub(crate) fn shown_at(aggregates: &[KeptAggregate], group: &GroupRef<'_>, place: usize) -> Value
     ensures { result
-        ≡ slice_index_or (all_shown aggregates.now rows (map cell_in cells.now)) place Null }
+        ≡ slice_index_or (all_shown aggregates.now group.now.rows group.now.cells) place Null }
 {
     if place >= aggregates.len() {
         return Value::Null;
     }
-    if place >= cells.len() {
+    if place >= group.width() {
         return Value::Null;
     }
-    shown(&aggregates[place], rows, &cells[place])
+    shown(&aggregates[place], group.len(), &group.cell(place))
 }
 
 /// A value of a group's row, of its key or of an aggregate, null where it is not there.
@@ -98,7 +93,7 @@ pub(crate) fn value_at(
     if place < key.len() {
         return key[place].clone();
     }
-    let value = shown_at(aggregates, group.len(), group.cells(), place - key.len());
+    let value = shown_at(aggregates, group, place - key.len());
     Ok(value)
 }
 

@@ -44,7 +44,7 @@ impl<'a> Model for StripedReading<'a> {
 // The stripes of the keys of rows.
 fn stripes_of(alloc: Global, reading: &Reading<'_>) -> Result<Vec<u8>, AllocError>
     ensures long { IfOk result (λ stripes. length stripes.items ≡ length reading.now.rows) }
-    ensures few { IfOk result (λ stripes. All (λ s. s < 16) stripes.items) }
+    ensures few { IfOk result (λ stripes. All (λ s. s < 4) stripes.items) }
 {
     let mut stripes = Vec::with_capacity(alloc, reading.len())?;
     let mut key = Vec::new(alloc);
@@ -57,14 +57,14 @@ fn stripes_of(alloc: Global, reading: &Reading<'_>) -> Result<Vec<u8>, AllocErro
 
 // The places of rows, stripe by stripe.
 fn by_stripe(alloc: Global, stripes: &[u8]) -> Result<Vec<usize>, AllocError>
-    requires { All (λ s. s < 16) stripes.now }
+    requires { All (λ s. s < 4) stripes.now }
     ensures below { IfOk result (λ places. AreBelow (length stripes.now) places.items) }
     ensures same { IfOk result (λ places. (rows : List (Ranked Datum))
         → length rows ≡ length stripes.now
         → SameBag (gathered (ranked [] true_rank) rows places.items) rows) }
 {
     let mut places = Vec::with_capacity(alloc, stripes.len())?;
-    for stripe in 0..16 {
+    for stripe in 0..4 {
         for i in 0..stripes.len() {
             if stripes[i] == stripe {
                 places.push(i)?;

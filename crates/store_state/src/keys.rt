@@ -73,6 +73,42 @@ pub(crate) fn has_near(keys: &KeySet<i64>, near: &[i64], key: i64) -> bool
     }
 }
 
+/// The key that was asked for last, and whether a set has it. The lineitems of an order lie side by
+/// side, so most rows ask for the key of the row before.
+#[derive(Clone, Copy)]
+pub(crate) struct LastKey {
+    pub(crate) key: i64,
+    pub(crate) is_there: bool,
+}
+
+impl LastKey {
+    /// Any key.
+    pub(crate) fn first(keys: &KeySet<i64>) -> LastKey
+        ensures { result.is_there ≡ has_key keys.now result.key }
+    {
+        LastKey {
+            key: 0,
+            is_there: has_key(keys, 0),
+        }
+    }
+
+    /// Whether the set has a key, which is the last one then.
+    pub(crate) fn has(&mut self, keys: &KeySet<i64>, near: &[i64], key: i64) -> bool
+        requires near { has_key near.now key ≡ has_key keys.now key }
+        requires last { self.old.is_there ≡ has_key keys.now self.old.key }
+        ensures value { result ≡ has_key keys.now key }
+        ensures last { self.new.is_there ≡ has_key keys.now self.new.key }
+    {
+        if self.key != key {
+            *self = LastKey {
+                key,
+                is_there: has_near(keys, near, key),
+            };
+        }
+        self.is_there
+    }
+}
+
 /// The whole number in a column of a row; 0 where there is none of 64 bits.
 pub(crate) fn number_at(segment: &Segment, i: usize, column: usize) -> i64
     requires { i < length segment.now }

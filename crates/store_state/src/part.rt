@@ -11,7 +11,7 @@ ghost use Rattle.store_state.specs.Parts.{left_rows};
 ghost use Rattle.store_state.specs.Refresh.{without_keys};
 
 use crate::key_range::KeyRange;
-use crate::keys::{LineKey, has_near, number_at};
+use crate::keys::{LastKey, LineKey, number_at};
 use crate::search::{put_lines_of, put_orders_of};
 use base_columns::Segment;
 use base_key_tables::KeySet;
@@ -68,19 +68,23 @@ fn put_place(
     deleted: &[u32],
     keys: &KeySet<i64>,
     near: &[i64],
+    last: &mut LastKey,
     i: usize,
     places: &mut Vec<u32>,
 ) -> Result<(), AllocError>
     requires up { IsNonDecreasing deleted.now }
     requires near { AreNear keys.now near.now segment.now }
+    requires last { last.old.is_there ≡ has_key keys.now last.old.key }
     requires within { i < length segment.now }
     requires short { i < 4096 }
-    ensures { OnOk result (places.new.items
+    ensures places { OnOk result (places.new.items
         ≡ (if has_place deleted.now i || has_key keys.now
         (order_key (slice_index_or segment.now i [])) then places.old.items
         ++ i ∷ [] else places.old.items)) }
+    ensures last { last.new.is_there ≡ has_key keys.now last.new.key }
 {
-    if has_place(deleted, i as u32) || has_near(keys, near, number_at(segment, i, 0)) {
+    let is_wanted = last.has(keys, near, number_at(segment, i, 0));
+    if is_wanted || has_place(deleted, i as u32) {
         places.push(i as u32)?;
     }
     Ok(())
@@ -99,8 +103,9 @@ fn places_without(
     ensures { IfOk result (λ places. IsWithout keys.now deleted.now segment.now places.items) }
 {
     let mut places = Vec::new(alloc);
+    let mut last = LastKey::first(keys);
     for i in 0..segment.len() {
-        put_place(segment, deleted, keys, near, i, &mut places)?;
+        put_place(segment, deleted, keys, near, &mut last, i, &mut places)?;
     }
     Ok(places)
 }
@@ -118,8 +123,9 @@ fn places_of_others(
     ensures { IfOk result (λ places. IsWith keys.now deleted.now segment.now places.items) }
 {
     let mut places = Vec::with_capacity(alloc, segment.len())?;
+    let mut last = LastKey::first(keys);
     for i in 0..segment.len() {
-        put_other(segment, deleted, keys, near, i, &mut places)?;
+        put_other(segment, deleted, keys, near, &mut last, i, &mut places)?;
     }
     Ok(places)
 }
@@ -130,19 +136,23 @@ fn put_other(
     deleted: &[u32],
     keys: &KeySet<i64>,
     near: &[i64],
+    last: &mut LastKey,
     i: usize,
     places: &mut Vec<u32>,
 ) -> Result<(), AllocError>
     requires up { IsNonDecreasing deleted.now }
     requires near { AreNear keys.now near.now segment.now }
+    requires last { last.old.is_there ≡ has_key keys.now last.old.key }
     requires within { i < length segment.now }
     requires short { i < 4096 }
-    ensures { OnOk result (places.new.items
+    ensures places { OnOk result (places.new.items
         ≡ (if has_place deleted.now i || not (has_key keys.now
         (order_key (slice_index_or segment.now i []))) then places.old.items
         ++ i ∷ [] else places.old.items)) }
+    ensures last { last.new.is_there ≡ has_key keys.now last.new.key }
 {
-    if has_place(deleted, i as u32) || !has_near(keys, near, number_at(segment, i, 0)) {
+    let is_wanted = last.has(keys, near, number_at(segment, i, 0));
+    if !is_wanted || has_place(deleted, i as u32) {
         places.push(i as u32)?;
     }
     Ok(())

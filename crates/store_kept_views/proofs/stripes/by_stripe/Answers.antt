@@ -26,6 +26,6 @@ returns-clause-below c = c.loop-stripe.invariant.below
 
 pub returns-clause-same : goal.returns-clause-same
 returns-clause-same c rows long =
-    same_rows _ 16 c.args.stripes.now c.loop-stripe.places.items
+    same_rows _ 4 c.args.stripes.now c.loop-stripe.places.items
     (subst (λ j. Striped (ranked {V = Value} [] true_rank) j 0 c.args.stripes.now c.loop-stripe.places.items) (omega (arith, c.loop-stripe-test.false, c.loop-stripe.auto.stripe-end)) c.loop-stripe.invariant)
     c.requires rows long

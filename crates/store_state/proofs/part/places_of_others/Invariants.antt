@@ -1,6 +1,8 @@
-use Rattle.std.proofs.Common.{take}
+use Rattle.std.proofs.Common.{◌≡◌, take}
 use Rattle.store_state.specs.Parts.{IsWith}
+use Rattle.store_state.specs.Keys.{has_key}
 use Rattle.store_state.proofs.part.places_of_others.Given as goal
 
 abbrev pub invariant-loop-i : goal.invariant-loop-i
-invariant-loop-i l = IsWith l.keys l.deleted (take l.i l.segment) l.places.items
+invariant-loop-i l =
+    (IsWith l.keys l.deleted (take l.i l.segment) l.places.items) × (l.last.is_there ≡ has_key l.keys l.last.key)
