@@ -1,5 +1,5 @@
 //! Keys with their hashes.
-ghost use Rattle.std.specs.Prelude.{◌≡◌, ◌<◌, IfOk, MatchOption, Some, false, slice_get};
+ghost use Rattle.std.specs.Prelude.{◌≡◌, IfOk, MatchOption, Some, false, slice_get};
 ghost use Rattle.base_row_laws.specs.Bags.{has};
 ghost use Rattle.store_groups.specs.Entries.{IsHash, hash_in, same_key};
 
@@ -41,14 +41,6 @@ pub(crate) fn hash_of(key: &[Value]) -> u64
     ensures { IsHash ⟦<Row as Hash>⟧.hash_input result key.now }
 {
     hashed(key)
-}
-
-/// The stripe of a key, one of 4. Keys of one stripe lie on a quarter of the pages of a table, so
-/// that rows which are put in or taken out stripe by stripe find their pages near.
-pub fn stripe_of(key: &[Value]) -> u8
-    ensures { result < 4 }
-{
-    (hash_of(key) % 4) as u8
 }
 
 impl Key {

@@ -21,5 +21,4 @@ pub use cell::Cell;
 pub use entry::Taken;
 pub use group::{Group, GroupRef};
 pub use groups::Groups;
-pub use key::stripe_of;
 pub use page::Page;

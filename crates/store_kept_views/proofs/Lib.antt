@@ -8,4 +8,3 @@ pub mod ViewLists
 pub mod PartLists
 pub mod RefreshMoves
 pub mod ShownColumns
-pub mod StripeLists

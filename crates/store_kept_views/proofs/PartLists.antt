@@ -9,10 +9,8 @@ use Rattle.base_value.specs.declared.value.Value.{Value}
 use Rattle.plan_algebra.specs.declared.kept_plan.KeptPlan.{KeptPlan}
 use Rattle.plan_algebra.specs.KeptPlans.{selected}
 use Rattle.store_groups.specs.Entries.{Entries}
-use Rattle.store_kept_views.specs.Standing.{StandsBy, is_stale, made_at}
-use Rattle.base_row_laws.specs.Bags.{SameBag}
-use Rattle.base_row_laws.proofs.Bags.{SameBag-append, SameBag-refl, SameBag-sym}
-use Rattle.store_kept_views.proofs.Made.{made_alike, selected_append}
+use Rattle.store_kept_views.specs.Standing.{StandsBy}
+use Rattle.store_kept_views.proofs.Made.{selected_append}
 
 list_suc : {X : Type 0} (parts : List (List X)) (i : ℕ) (part : List X) → i < length parts → part ≡ get_or parts i part → one_list (take (suc i) parts) ≡ one_list (take i parts) ++ part
 list_suc [] i part less is = absurd (omega arith)
@@ -64,18 +62,3 @@ none_selected p zs = refl
 
 pub no_parts : (p : KeptPlan) (parts : List (List (List Value))) (i : ℕ) (zs : List (Ranked Value)) → length parts ≤ i → selected p (one_list (drop i parts)) ++ zs ≡ zs
 no_parts p parts i zs le = ap (λ l. selected p l ++ zs) (past parts i le) ∙ none_selected p zs
-
--- the order of the rows doesn't matter
-pub stands_alike : (p : KeptPlan) (es st : Entries) (xs us ys vs : List (Ranked Value)) → SameBag xs us → SameBag ys vs → StandsBy p es st xs ys → StandsBy p es st us vs
-stands_alike p es st xs us ys vs e f old q =
-    old q
-    ∙ ap (λ o. cond (is_stale st q) o (made_at p q ys)) (made_alike p q xs us e)
-    ∙ ap (λ o. cond (is_stale st q) (made_at p q us) o) (made_alike p q ys vs f)
-
-pub before_alike : (p : KeptPlan) (es st : Entries) (rows same zs : List (Ranked Value)) → SameBag rows same → StandsBy p es st [] (same ++ zs) → StandsBy p es st [] (rows ++ zs)
-before_alike p es st rows same zs e old = stands_alike p es st [] [] (same ++ zs) (rows ++ zs) (SameBag-refl []) (SameBag-append (SameBag-sym e) (SameBag-refl zs)) old
-
-pub behind_alike : (wanted : Bool) (p : KeptPlan) (es st : Entries) (rows same xs ys : List (Ranked Value)) → SameBag rows same
-    → StandsBy p es st (cond wanted (xs ++ rows) xs) (cond wanted ys (ys ++ rows)) → StandsBy p es st (cond wanted (xs ++ same) xs) (cond wanted ys (ys ++ same))
-behind_alike true p es st rows same xs ys e old = stands_alike p es st (xs ++ rows) (xs ++ same) ys ys (SameBag-append (SameBag-refl xs) e) (SameBag-refl ys) old
-behind_alike false p es st rows same xs ys e old = stands_alike p es st xs xs (ys ++ rows) (ys ++ same) (SameBag-refl xs) (SameBag-append (SameBag-refl ys) e) old

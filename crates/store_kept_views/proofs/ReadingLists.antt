@@ -1,5 +1,5 @@
 -- The columns that a plan reads of rows, place by place.
-use Rattle.std.proofs.Common.{◌≡◌, ℕ, ◌+◌, ◌<◌, List, [], ◌∷◌, ◌++◌, map, get_or, take, refl, sym, ◌∙◌, ap, subst, arith, length, zero, suc}
+use Rattle.std.proofs.Common.{◌≡◌, ℕ, ℤ, ◌+◌, ◌<◌, List, [], ◌∷◌, ◌++◌, map, get_or, take, refl, sym, ◌∙◌, ap, subst, arith, length, zero, suc}
 use Rattle.std.specs.Prelude.{replicate, slice_index_or}
 use Rattle.std.specs.List.{All}
 use Rattle.std.proofs.lemmas.List.{length-map, map-append, take_more}
@@ -7,7 +7,7 @@ use Rattle.base_columns.specs.Batches.{cells, column_at, row_at}
 use Rattle.base_row_laws.specs.Ranked.{Ranked}
 use Rattle.base_row_laws.specs.Rows.{columns}
 use Rattle.base_value.specs.declared.value.Value.{Value}
-use Rattle.base_value.specs.declared.value.Value.TheVariants.{Null}
+use Rattle.base_value.specs.declared.value.Value.TheVariants.{Null, Number}
 use Rattle.expr_scalar.specs.declared.expr.Expr.TheVariants as e
 use Rattle.expr_scalar.specs.Meaning.{value}
 use Rattle.expr_scalar.proofs.Opened.{value_Column}
@@ -44,6 +44,12 @@ argument_cells [] rows i less = refl
 argument_cells (a ∷ ags) rows i less =
     ap (λ v. v ∷ cells (argument_columns ags rows) i) (at_map (λ y. (item_of a).0 y.values) rows i less)
     ∙ ap (λ vs. (item_of a).0 (row_at rows i).values ∷ vs) (argument_cells ags rows i less)
+
+-- a number of a list
+pub number_here : (scale : ℕ) (numbers : List ℤ) (i : ℕ) (d : ℤ) → i < length numbers → Number scale (get_or numbers i d) ≡ slice_index_or (map (Number scale) numbers) i Null
+number_here scale [] i d less = absurd (omega arith)
+number_here scale (n ∷ numbers) zero d less = refl
+number_here scale (n ∷ numbers) (suc i) d less = number_here scale numbers i d (omega arith)
 
 -- the columns are as long as the rows
 pub keys_long : (places : List ℕ) (rows : List (Ranked Value)) (i : ℕ) → i < length rows → All (λ c. i < length c) (key_columns places rows)

@@ -10,7 +10,6 @@ pub mod laws;
 mod moving;
 mod output;
 mod reading;
-mod stripes;
 mod view;
 
 pub use attached::{KeptOf, Plans};

@@ -2,7 +2,6 @@
 ghost use Rattle.std.specs.Prelude.{◌≡◌, ◌++◌, ◌<◌, ◌^◌, List, [], IfOk, OnOk, cond, length};
 ghost use Rattle.base_columns.specs.Lists.{one_list};
 ghost use Rattle.base_columns.specs.Tables.{standing_rows};
-ghost use Rattle.base_row_laws.specs.Bags.{SameBag};
 ghost use Rattle.base_row_laws.specs.Ranked.{Ranked};
 ghost use Rattle.base_value.specs.Truth.{standing_rank};
 ghost use Rattle.base_value.specs.declared.value.Value.{Value as Datum};
@@ -14,7 +13,6 @@ ghost use Rattle.store_groups.specs.Entries.{group_at};
 ghost use Rattle.store_kept_views.specs.Standing.{StandsFor};
 
 use crate::reading::Reading;
-use crate::stripes::StripedReading;
 use base_columns::Batch;
 use base_value::{Standing, Value};
 use plan_algebra::{KeptPlan, Piece};
@@ -55,20 +53,6 @@ fn reading_of<'a>(alloc: Global, plan: &'a KeptPlan, part: &Part) -> Result<Read
     Ok(reading)
 }
 
-// The same, stripe by stripe.
-fn striped_of<'a>(
-    alloc: Global,
-    plan: &'a KeptPlan,
-    part: &Part,
-) -> Result<StripedReading<'a>, AllocError>
-    ensures plan { IfOk result (λ r. r.plan ≡ plan.now) }
-    ensures rows { IfOk result (λ r. SameBag r.rows (selected plan.now part.now)) }
-{
-    let reading = reading_of(alloc, plan, part)?;
-    let striped = StripedReading::new(alloc, reading)?;
-    Ok(striped)
-}
-
 // Takes a row out of the group of a key. The key of a group that holds a fault is put into `stale`.
 fn take_out(
     key: &[Value],
@@ -92,7 +76,7 @@ fn take_out(
 // Takes rows out of their groups.
 fn take_rows(
     alloc: Global,
-    reading: &StripedReading<'_>,
+    reading: &Reading<'_>,
     groups: &mut Groups,
     stale: &mut Groups,
 ) -> Result<(), AllocError>
@@ -125,7 +109,7 @@ fn take_parts(
         → StandsBy plan.now groups.new stale.new [] zs) }
 {
     for part in parts {
-        let reading = striped_of(alloc, plan, part)?;
+        let reading = reading_of(alloc, plan, part)?;
         take_rows(alloc, &reading, groups, stale)?;
     }
     Ok(())
@@ -155,7 +139,7 @@ fn put_in(
 // Puts those of the rows whose keys are wanted into their groups.
 fn put_rows(
     alloc: Global,
-    reading: &StripedReading<'_>,
+    reading: &Reading<'_>,
     wanted: bool,
     stale: &Groups,
     groups: &mut Groups,
@@ -201,7 +185,7 @@ fn put_parts(
         (cond wanted ys (ys ++ selected plan.now (one_list parts.now)))) }
 {
     for part in parts {
-        let reading = striped_of(alloc, plan, part)?;
+        let reading = reading_of(alloc, plan, part)?;
         put_rows(alloc, &reading, wanted, stale, groups)?;
     }
     Ok(())

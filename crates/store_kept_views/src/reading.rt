@@ -1,5 +1,5 @@
 //! What a plan reads of the rows of a batch, column by column.
-ghost use Rattle.std.specs.Prelude.{◌≡◌, ◌<◌, ◌^◌, IfOk, OnOk, length, map};
+ghost use Rattle.std.specs.Prelude.{◌≡◌, ◌<◌, ◌^◌, IfOk, OnOk, length, map, slice_index_or};
 ghost use Rattle.std.specs.List.{All};
 ghost use Rattle.base_row_laws.specs.Operators.{select};
 ghost use Rattle.base_value.specs.Truth.{standing_rank};
@@ -85,6 +85,17 @@ fn arguments_of(
     Ok(columns)
 }
 
+// The value at a place of a column. Most are numbers, which are taken from their list.
+fn value_in(alloc: Global, column: &Column, i: usize) -> Result<Value, AllocError>
+    requires { i < length column.now }
+    ensures { IfOk result (λ v. v ≡ slice_index_or column.now i Null) }
+{
+    match column.as_numbers() {
+        Some((scale, numbers)) => Ok(Value::Number(scale, i128::from(numbers[i]))),
+        None => column.at(alloc, i),
+    }
+}
+
 // The values at a place, one of each column.
 fn cells_of(
     alloc: Global,
@@ -97,7 +108,7 @@ fn cells_of(
 {
     values.clear();
     for column in columns {
-        values.push(column.at(alloc, i)?)?;
+        values.push(value_in(alloc, column, i)?)?;
     }
     Ok(())
 }

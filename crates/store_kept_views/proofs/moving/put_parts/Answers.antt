@@ -1,10 +1,10 @@
-use Rattle.std.proofs.Common.{[], ◌++◌, cond, refl, subst, sym}
+use Rattle.std.proofs.Common.{[], ◌++◌, cond, subst, sym}
 use Rattle.std.specs.Prelude.{take}
 use Rattle.base_columns.specs.Lists.{one_list}
 use Rattle.plan_algebra.specs.KeptPlans.{selected}
 use Rattle.store_kept_views.specs.Standing.{StandsBy}
 use Rattle.store_kept_views.proofs.Passing.{begun, selected_none}
-use Rattle.store_kept_views.proofs.PartLists.{behind_alike, more_parts}
+use Rattle.store_kept_views.proofs.PartLists.{more_parts}
 use Rattle.store_kept_views.specs.Standing.{CanAdd}
 use Rattle.store_kept_views.proofs.moving.put_parts.Goals as goal
 
@@ -25,9 +25,8 @@ loop-part-preserved c = λ xs ys old.
     let before = cond c.args.wanted (xs ++ selected c.args.plan.now (one_list (take c.loop-part.part-index c.args.parts.now))) xs in
     let others = cond c.args.wanted ys (ys ++ selected c.args.plan.now (one_list (take c.loop-part.part-index c.args.parts.now))) in
     let rows = c.in_ok-reading.reading.rows in
-    more_parts c.args.wanted c.args.plan.now c.put_rows.new.groups c.args.stale.now c.args.parts.now c.loop-part.part-index c.part-item.result (selected c.args.plan.now c.part-item.result) xs ys c.loop-part-test.true c.part-item.is
-    refl
-    (behind_alike c.args.wanted c.args.plan.now c.put_rows.new.groups c.args.stale.now rows (selected c.args.plan.now c.part-item.result) before others c.in_ok-reading.ensures.rows
+    more_parts c.args.wanted c.args.plan.now c.put_rows.new.groups c.args.stale.now c.args.parts.now c.loop-part.part-index c.part-item.result rows xs ys c.loop-part-test.true c.part-item.is
+    c.in_ok-reading.ensures.rows
     (subst (λ p. StandsBy p c.put_rows.new.groups c.args.stale.now (cond c.args.wanted (before ++ rows) before) (cond c.args.wanted others (others ++ rows))) c.in_ok-reading.ensures.plan
     (c.in_ok-put_rows.ensures before others
-    (subst (λ p. StandsBy p c.loop-part.groups c.args.stale.now before others) (sym c.in_ok-reading.ensures.plan) (c.loop-part.invariant xs ys old)))))
+    (subst (λ p. StandsBy p c.loop-part.groups c.args.stale.now before others) (sym c.in_ok-reading.ensures.plan) (c.loop-part.invariant xs ys old))))

@@ -1,9 +1,9 @@
-use Rattle.std.proofs.Common.{◌+◌, [], ◌++◌, refl, subst, sym}
+use Rattle.std.proofs.Common.{◌+◌, [], ◌++◌, subst, sym}
 use lib.ListN.{drop}
 use Rattle.base_columns.specs.Lists.{one_list}
 use Rattle.plan_algebra.specs.KeptPlans.{selected}
 use Rattle.store_kept_views.specs.Standing.{StandsBy}
-use Rattle.store_kept_views.proofs.PartLists.{before_alike, next_part, no_parts}
+use Rattle.store_kept_views.proofs.PartLists.{next_part, no_parts}
 use Rattle.store_kept_views.specs.Standing.{CanTakeAll}
 use Rattle.store_kept_views.proofs.moving.take_parts.Goals as goal
 
@@ -16,10 +16,9 @@ take_rows-requires c =
     (record {
       left = selected c.args.plan.now (one_list (drop (c.loop-part.part-index + 1) c.args.parts.now)) ++ c.requires.left;
       stands =
-          before_alike c.args.plan.now c.loop-part.groups c.loop-part.stale c.in_ok-reading.reading.rows (selected c.args.plan.now c.part-item.result) _ c.in_ok-reading.ensures.rows
-          (subst (λ l. StandsBy c.args.plan.now c.loop-part.groups c.loop-part.stale [] l)
-          (next_part c.args.plan.now c.args.parts.now c.loop-part.part-index c.part-item.result (selected c.args.plan.now c.part-item.result) c.requires.left c.loop-part-test.true c.part-item.is refl)
-          (c.loop-part.invariant c.requires.left c.requires.stands));
+          subst (λ l. StandsBy c.args.plan.now c.loop-part.groups c.loop-part.stale [] l)
+          (next_part c.args.plan.now c.args.parts.now c.loop-part.part-index c.part-item.result c.in_ok-reading.reading.rows c.requires.left c.loop-part-test.true c.part-item.is c.in_ok-reading.ensures.rows)
+          (c.loop-part.invariant c.requires.left c.requires.stands);
     })
 
 pub loop-part-preserved : goal.loop-part-preserved
@@ -29,10 +28,9 @@ loop-part-preserved c = λ zs old.
     (c.in_ok-take_rows.ensures (selected c.args.plan.now (one_list (drop (c.loop-part.part-index + 1) c.args.parts.now)) ++ zs)
     (subst (λ p. StandsBy p c.loop-part.groups c.loop-part.stale [] (c.in_ok-reading.reading.rows ++ (selected c.args.plan.now (one_list (drop (c.loop-part.part-index + 1) c.args.parts.now)) ++ zs)))
     (sym c.in_ok-reading.ensures.plan)
-    (before_alike c.args.plan.now c.loop-part.groups c.loop-part.stale c.in_ok-reading.reading.rows (selected c.args.plan.now c.part-item.result) _ c.in_ok-reading.ensures.rows
     (subst (λ l. StandsBy c.args.plan.now c.loop-part.groups c.loop-part.stale [] l)
-    (next_part c.args.plan.now c.args.parts.now c.loop-part.part-index c.part-item.result (selected c.args.plan.now c.part-item.result) zs c.loop-part-test.true c.part-item.is refl)
-    (c.loop-part.invariant zs old)))))
+    (next_part c.args.plan.now c.args.parts.now c.loop-part.part-index c.part-item.result c.in_ok-reading.reading.rows zs c.loop-part-test.true c.part-item.is c.in_ok-reading.ensures.rows)
+    (c.loop-part.invariant zs old))))
 
 pub returns : goal.returns
 returns c = λ zs old.
