@@ -1,5 +1,5 @@
 use Rattle.std.proofs.Common.{◌∙◌, ◌-◌, ap, arith, length, sym}
-use Rattle.std.specs.Prelude.{map, take, drop}
+use Rattle.std.specs.Prelude.{map}
 use borrow.Rule.Slice.PartMut.{put_mid}
 use Rattle.std.proofs.lemmas.List.{with_items_is}
 use Rattle.store_groups.specs.Stored.{cell_in}

@@ -1,5 +1,5 @@
 use Rattle.std.proofs.Common.{◌∙◌, ◌-◌, ap, sym}
-use Rattle.std.specs.Prelude.{map, take, drop}
+use Rattle.std.specs.Prelude.{map}
 use Rattle.store_groups.specs.Stored.{cell_in, kept_cells}
 use Rattle.store_groups.specs.Shelves.{part_of}
 use Rattle.store_groups.proofs.ShelfLists.{map_part}
