@@ -6,5 +6,6 @@ pub mod Shows
 pub mod ReadingLists
 pub mod ViewLists
 pub mod PartLists
+pub mod PlacedRows
 pub mod RefreshMoves
 pub mod ShownColumns

@@ -9,6 +9,8 @@ mod kept;
 pub mod laws;
 mod moving;
 mod output;
+mod part_reading;
+mod placed;
 mod reading;
 mod view;
 

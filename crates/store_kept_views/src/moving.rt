@@ -1,7 +1,6 @@
 //! Rows of parts put into groups and taken out of them.
-ghost use Rattle.std.specs.Prelude.{◌≡◌, ◌++◌, ◌<◌, ◌^◌, List, [], IfOk, OnOk, cond, length};
+ghost use Rattle.std.specs.Prelude.{◌≡◌, ◌++◌, List, [], IfOk, OnOk, cond, length};
 ghost use Rattle.base_columns.specs.Lists.{one_list};
-ghost use Rattle.base_columns.specs.Tables.{standing_rows};
 ghost use Rattle.base_row_laws.specs.Ranked.{Ranked};
 ghost use Rattle.base_value.specs.Truth.{standing_rank};
 ghost use Rattle.base_value.specs.declared.value.Value.{Value as Datum};
@@ -12,46 +11,13 @@ ghost use Rattle.store_kept_views.specs.Standing.{CanAdd, CanMove, CanTakeAll, S
 ghost use Rattle.store_groups.specs.Entries.{group_at};
 ghost use Rattle.store_kept_views.specs.Standing.{StandsFor};
 
-use crate::reading::Reading;
-use base_columns::Batch;
+use crate::part_reading::read_of;
+use crate::placed::PlacedReading;
 use base_value::{Standing, Value};
-use plan_algebra::{KeptPlan, Piece};
-use sqlite_items::Items;
+use plan_algebra::KeptPlan;
 use std::alloc::{AllocError, Global};
 use store_groups::{Groups, Taken};
 use store_state::Part;
-
-// A part's rows as a piece, of which nothing is copied.
-fn piece_of(alloc: Global, part: &Part) -> Result<Piece, AllocError>
-    ensures { IfOk result (λ piece. piece ≡ part.now) }
-{
-    let (segment, places) = part.stored(alloc)?;
-    match places {
-        None => Ok(Piece::whole(segment)),
-        Some(places) => Ok(Piece::at(segment, Items::from_vec(places))),
-    }
-}
-
-// The rows of a part as a batch, all at True.
-fn batch_of(alloc: Global, part: &Part) -> Result<Batch, AllocError>
-    ensures rows { IfOk result (λ b. b.rows ≡ standing_rows part.now) }
-    ensures short { IfOk result (λ b. length b.rows < 2 ^ 32) }
-{
-    let _count = part.len();
-    let piece = piece_of(alloc, part)?;
-    let batch = piece.batch(alloc)?;
-    Ok(batch)
-}
-
-// What a plan reads of a part.
-fn reading_of<'a>(alloc: Global, plan: &'a KeptPlan, part: &Part) -> Result<Reading<'a>, AllocError>
-    ensures plan { IfOk result (λ r. r.plan ≡ plan.now) }
-    ensures rows { IfOk result (λ r. r.rows ≡ selected plan.now part.now) }
-{
-    let batch = batch_of(alloc, part)?;
-    let reading = Reading::new(alloc, plan, batch)?;
-    Ok(reading)
-}
 
 // Takes a row out of the group of a key. The key of a group that holds a fault is put into `stale`.
 fn take_out(
@@ -76,7 +42,7 @@ fn take_out(
 // Takes rows out of their groups.
 fn take_rows(
     alloc: Global,
-    reading: &Reading<'_>,
+    reading: &PlacedReading<'_>,
     groups: &mut Groups,
     stale: &mut Groups,
 ) -> Result<(), AllocError>
@@ -109,7 +75,7 @@ fn take_parts(
         → StandsBy plan.now groups.new stale.new [] zs) }
 {
     for part in parts {
-        let reading = reading_of(alloc, plan, part)?;
+        let reading = read_of(alloc, plan, part)?;
         take_rows(alloc, &reading, groups, stale)?;
     }
     Ok(())
@@ -139,7 +105,7 @@ fn put_in(
 // Puts those of the rows whose keys are wanted into their groups.
 fn put_rows(
     alloc: Global,
-    reading: &Reading<'_>,
+    reading: &PlacedReading<'_>,
     wanted: bool,
     stale: &Groups,
     groups: &mut Groups,
@@ -185,7 +151,7 @@ fn put_parts(
         (cond wanted ys (ys ++ selected plan.now (one_list parts.now)))) }
 {
     for part in parts {
-        let reading = reading_of(alloc, plan, part)?;
+        let reading = read_of(alloc, plan, part)?;
         put_rows(alloc, &reading, wanted, stale, groups)?;
     }
     Ok(())
