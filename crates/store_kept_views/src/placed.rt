@@ -131,7 +131,7 @@ impl<'a> PlacedReading<'a> {
             ≡ arguments_in self.now.plan.aggregates (row_at self.now.rows i).values) }
     {
         self.reading
-            .put_arguments(alloc, self.places[0], arguments)?;
+            .put_arguments(alloc, self.places[i], arguments)?;
         Ok(())
     }
 }
